@@ -1,0 +1,6 @@
+pub mod Paint
+pub mod Limits
+pub mod Rows
+pub mod Dots
+pub mod Draw
+pub mod Unpack

@@ -1,0 +1,12 @@
+-- The limits of a caller's arguments: past them a call answers 15, "an argument other than the text outside its limits".
+use Prim.Native.Nat.{ℕ}
+use mathlib.Core.Bool.{Bool, _&&_}
+use lib.Dec.{leb}
+
+-- "stride 1 to 65,535; scale 1 to 64; start at most 2,147,483,647"
+abbrev pub okPlace : ℕ → ℕ → ℕ → Bool
+okPlace start stride scale = leb start 2147483647 && leb 1 stride && leb stride 65535 && leb 1 scale && leb scale 64
+
+-- "each given width, height and pad at most 32,767"
+abbrev pub okPair : ℕ → ℕ → Bool
+okPair a b = leb a 32767 && leb b 32767

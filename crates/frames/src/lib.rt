@@ -1,0 +1,1 @@
+// What the dump prints: specs/Frames.antt defines a frame, specs/Dump.antt the whole output.

@@ -1,0 +1,123 @@
+-- What the directory has given so far, and what a table adds to it. From document 01: "A repeated type is checked each time and
+-- the last one serves; types 2 and 256 both give the accelerators. Six kinds must be present."
+use Prim.Native.Nat.{ℕ}
+use mathlib.Core.Bool.{Bool, true, false, cond, _&&_}
+use lib.IntN.{pos}
+use Rattle.reads.specs.Said.{refusal}
+use Rattle.tables.specs.declared.PropertiesRead.{PropertiesRead}
+use Rattle.tables.specs.declared.AcceleratorRead.{AcceleratorRead}
+use Rattle.tables.specs.declared.MetricsUnpacked.{MetricsUnpacked}
+use Rattle.tables.specs.declared.MetricsRead.{MetricsRead}
+use Rattle.tables.specs.declared.BitmapRead.{BitmapRead}
+use Rattle.tables.specs.declared.EncodingRead.{EncodingRead}
+use Rattle.tables.specs.declared.GlyphNameRead.{GlyphNameRead}
+use Rattle.tables.specs.declared.Record.{Record}
+use Rattle.load.specs.declared.Kinds.{Kinds}
+use Rattle.load.specs.declared.Gathered.{Gathered}
+use Rattle.load.specs.declared.Entered.{Entered}
+use Rattle.load.specs.declared.Loaded.{Loaded}
+
+-- before the first entry: no kind, and numbers that nothing reads
+abbrev pub noMetrics : MetricsUnpacked
+noMetrics = record { left = pos 0; right = pos 0; width = pos 0; ascent = pos 0; descent = pos 0; attributes = 0 }
+
+abbrev pub blank : Record
+blank = record {
+  props = record { big = false; count = 0; records = 0; strings = 0; size = 0 };
+  accel = record {
+    format = 0;
+    noOverlap = 0;
+    constantMetrics = 0;
+    terminalFont = 0;
+    constantWidth = 0;
+    inkInside = 0;
+    inkMetrics = 0;
+    drawDirection = 0;
+    padding = 0;
+    fontAscent = pos 0;
+    fontDescent = pos 0;
+    maxOverlap = pos 0;
+    minbounds = noMetrics;
+    maxbounds = noMetrics;
+  };
+  metrics = record { big = false; compressed = false; count = 0; records = 0 };
+  bitmaps = record { big = false; count = 0; offsets = 0; bits = 0; size = 0; pad = 0; unit = 0; top = false };
+  codes = record { big = false; low2 = 0; high2 = 0; low1 = 0; high1 = 0; default = 0; entries = 0; size = 0 };
+  names = record { big = false; count = 0; offsets = 0; strings = 0; size = 0 };
+}
+
+abbrev pub nothing : Gathered
+nothing = record {
+  tables = blank;
+  kinds = record { props = false; accel = false; metrics = false; bitmaps = false; codes = false; names = false };
+}
+
+-- each table that was read takes the place of an earlier one of its kind
+
+abbrev pub gotProps : Gathered → PropertiesRead → Entered
+gotProps g (PropertiesRead.Refused n) = Entered.Refused n
+gotProps g (PropertiesRead.Table t) =
+    let r = g .tables in
+    let k = g .kinds in
+    Entered.Next (record {
+      tables = record { props = t; accel = r .accel; metrics = r .metrics; bitmaps = r .bitmaps; codes = r .codes; names = r .names };
+      kinds = record { props = true; accel = k .accel; metrics = k .metrics; bitmaps = k .bitmaps; codes = k .codes; names = k .names };
+    })
+
+abbrev pub gotAccel : Gathered → AcceleratorRead → Entered
+gotAccel g (AcceleratorRead.Refused n) = Entered.Refused n
+gotAccel g (AcceleratorRead.Table t) =
+    let r = g .tables in
+    let k = g .kinds in
+    Entered.Next (record {
+      tables = record { props = r .props; accel = t; metrics = r .metrics; bitmaps = r .bitmaps; codes = r .codes; names = r .names };
+      kinds = record { props = k .props; accel = true; metrics = k .metrics; bitmaps = k .bitmaps; codes = k .codes; names = k .names };
+    })
+
+abbrev pub gotMetrics : Gathered → MetricsRead → Entered
+gotMetrics g (MetricsRead.Refused n) = Entered.Refused n
+gotMetrics g (MetricsRead.Table t) =
+    let r = g .tables in
+    let k = g .kinds in
+    Entered.Next (record {
+      tables = record { props = r .props; accel = r .accel; metrics = t; bitmaps = r .bitmaps; codes = r .codes; names = r .names };
+      kinds = record { props = k .props; accel = k .accel; metrics = true; bitmaps = k .bitmaps; codes = k .codes; names = k .names };
+    })
+
+abbrev pub gotBitmaps : Gathered → BitmapRead → Entered
+gotBitmaps g (BitmapRead.Refused n) = Entered.Refused n
+gotBitmaps g (BitmapRead.Table t) =
+    let r = g .tables in
+    let k = g .kinds in
+    Entered.Next (record {
+      tables = record { props = r .props; accel = r .accel; metrics = r .metrics; bitmaps = t; codes = r .codes; names = r .names };
+      kinds = record { props = k .props; accel = k .accel; metrics = k .metrics; bitmaps = true; codes = k .codes; names = k .names };
+    })
+
+abbrev pub gotCodes : Gathered → EncodingRead → Entered
+gotCodes g (EncodingRead.Refused n) = Entered.Refused n
+gotCodes g (EncodingRead.Table t) =
+    let r = g .tables in
+    let k = g .kinds in
+    Entered.Next (record {
+      tables = record { props = r .props; accel = r .accel; metrics = r .metrics; bitmaps = r .bitmaps; codes = t; names = r .names };
+      kinds = record { props = k .props; accel = k .accel; metrics = k .metrics; bitmaps = k .bitmaps; codes = true; names = k .names };
+    })
+
+abbrev pub gotNames : Gathered → GlyphNameRead → Entered
+gotNames g (GlyphNameRead.Refused n) = Entered.Refused n
+gotNames g (GlyphNameRead.Table t) =
+    let r = g .tables in
+    let k = g .kinds in
+    Entered.Next (record {
+      tables = record { props = r .props; accel = r .accel; metrics = r .metrics; bitmaps = r .bitmaps; codes = r .codes; names = t };
+      kinds = record { props = k .props; accel = k .accel; metrics = k .metrics; bitmaps = k .bitmaps; codes = k .codes; names = true };
+    })
+
+-- "Six kinds must be present"
+abbrev pub allSix : Kinds → Bool
+allSix k = k .props && k .accel && k .metrics && k .bitmaps && k .codes && k .names
+
+-- after the last entry: 8, "a table is missing", or the font
+unfoldable pub finished : Gathered → Loaded
+finished g = cond (allSix (g .kinds)) (Loaded.Font (g .tables)) (Loaded.Refused (refusal 8 0))

@@ -1,0 +1,65 @@
+-- Placing a character. From document 01: "Refusal 11 unless width, ascent and left bearing are at least 0, ascent + descent is 0 to
+-- 32,767, and ascent is at most the maximum bounds' ascent"; "A glyph's bitmap is its character width wide and ascent + descent high;
+-- `pad_top` is the bounds' ascent minus its own; `pad_left` is the left bearing."
+use Prim.Native.Nat.{ℕ}
+use mathlib.Core.Bool.{Bool, cond, _&&_}
+use mathlib.Core.List.{List, [], _∷_}
+use lib.ListN.{length}
+use lib.IntN.{ℤ, pos, natAbs, _-ℤ_}
+use lib.Signed.{nonNeg, leZ}
+use Rattle.reads.specs.Said.{Said, refusal, says, refuses}
+use Rattle.reads.specs.declared.GlyphIndex.{GlyphIndex}
+use Rattle.tables.specs.Fits.{recordFits}
+use Rattle.tables.specs.declared.MetricsUnpacked.{MetricsUnpacked}
+use Rattle.tables.specs.declared.Record.{Record}
+use Rattle.lookup.specs.Lookup.{glyphOf}
+use Rattle.lookup.specs.declared.Found.{Found}
+use Rattle.metrics.specs.Measure.{metricsOf}
+use Rattle.metrics.specs.declared.Measured.{Measured}
+use Rattle.place.specs.Bounds.{heightOf, inRange, boundsOf}
+use Rattle.place.specs.declared.GlyphInfo.{GlyphInfo}
+use Rattle.place.specs.declared.Prepared.{Prepared}
+
+-- of a glyph's metrics, and the maximum bounds' ascent
+unfoldable pub placeable : MetricsUnpacked → ℤ → Bool
+placeable m top = nonNeg (m .width) && nonNeg (m .ascent) && nonNeg (m .left) && inRange (heightOf m) && leZ (m .ascent) top
+
+-- the box of a glyph with such metrics
+abbrev pub boxOf : GlyphIndex → MetricsUnpacked → ℤ → GlyphInfo
+boxOf g m top = record {
+  glyph = g;
+  width = natAbs (m .width);
+  height = natAbs (heightOf m);
+  «pad_top» = natAbs (top -ℤ m .ascent);
+  «pad_left» = natAbs (m .left);
+}
+
+abbrev pub withMetrics : Measured → (MetricsUnpacked → Prepared) → Prepared
+withMetrics (Measured.Metrics m) rest = rest m
+withMetrics (Measured.Refused r) rest = Prepared.Refused r
+
+-- a glyph placed: 10, 11
+unfoldable pub infoOf : List ℕ → Record → GlyphIndex → Prepared
+infoOf s rec g =
+    let top = boundsOf rec .ascent in
+    withMetrics (metricsOf s (rec .metrics) (g .0)) (λ m.
+    cond (placeable m top) (Prepared.Info (boxOf g m top)) (Prepared.Refused (refusal 11 0)))
+
+abbrev pub withGlyph : Found → (GlyphIndex → Prepared) → Prepared
+withGlyph (Found.Glyph g) rest = rest g
+withGlyph (Found.Refused r) rest = Prepared.Refused r
+
+-- a character placed: 9, 10, 11
+unfoldable pub prepared : List ℕ → Record → ℕ → Prepared
+prepared s rec code = withGlyph (glyphOf s (rec .codes) code) (λ g. infoOf s rec g)
+
+-- `prep_char`: 6, 9, 10, 11
+unfoldable pub prepChar : List ℕ → Record → ℕ → Prepared
+prepChar s rec code = cond (recordFits (length s) rec) (prepared s rec code) (Prepared.Refused (refusal 6 0))
+
+abbrev pub infoValues : GlyphInfo → List ℤ
+infoValues i = pos (i .glyph .0) ∷ pos (i .width) ∷ pos (i .height) ∷ pos (i .«pad_top») ∷ pos (i .«pad_left») ∷ []
+
+abbrev pub saidPrepared : Prepared → Said
+saidPrepared (Prepared.Info i) = says (infoValues i)
+saidPrepared (Prepared.Refused r) = refuses r

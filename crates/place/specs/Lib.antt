@@ -1,0 +1,5 @@
+pub mod Bounds
+pub mod Info
+pub mod Glyph
+pub mod Char
+pub mod Unpack

@@ -1,0 +1,37 @@
+// A character placed: its glyph's box, and drawing or unpacking that box.
+use bitmaps::Rows;
+use reads::GlyphIndex;
+use reads::Refusal;
+
+// A glyph's bitmap is `width` wide and `height` high, and stands `pad_top` below the line's top and
+// `pad_left` right of the pen.
+#[repr(C)]
+pub struct GlyphInfo {
+    pub glyph: GlyphIndex,
+    pub width: usize,
+    pub height: usize,
+    pub pad_top: usize,
+    pub pad_left: usize,
+}
+
+// The largest glyph's box, in 000's order.
+#[repr(C)]
+pub struct Dimensions {
+    pub height: usize,
+    pub width: usize,
+}
+
+pub enum Sized {
+    Dimensions(Dimensions),
+    Refused(Refusal),
+}
+
+pub enum Prepared {
+    Info(GlyphInfo),
+    Refused(Refusal),
+}
+
+pub enum CharDrawn {
+    Glyph(GlyphInfo, Rows),
+    Refused(Refusal),
+}

@@ -1,0 +1,2 @@
+mod ProvedCases
+mod DumpF

@@ -1,0 +1,38 @@
+-- The two-digit font F, and its dump, line by line as document 01 has them.
+use Prim.Native.Nat.{ℕ}
+use Prim.Native.String.{String}
+use mathlib.Core.List.{List, [], _∷_}
+use Rattle.hexline.specs.Lines.{hexBytes}
+use Rattle.promises.specs.Typed.{typedLines}
+
+unfoldable pub linesF : List String
+linesF =
+    "0166637006000000"
+    ∷ "01000000000000000C00000068000000"
+    ∷ "02000000000000003000000074000000"
+    ∷ "040000000001000010000000A4000000"
+    ∷ "080000000800000028000000B4000000"
+    ∷ "200000000000000014000000DC000000"
+    ∷ "80000000000000001C000000F0000000"
+    ∷ "000000000000000000000000"
+    ∷ "000000000000000000000000030000000000000000000000"
+    ∷ "000003000300030000000000000003000300030000000000"
+    ∷ "00010000020080838383808083838380"
+    ∷ "08000000020000000000000003000000"
+    ∷ "060000000C0000001800000030000000"
+    ∷ "E0A0E04040400000"
+    ∷ "0000000030003100000000003000000001000000"
+    ∷ "00000000020000000000000004000000"
+    ∷ "080000006E696C006F6E6500"
+    ∷ []
+
+-- F's bytes, read as the dump reads them
+unfoldable pub F : List ℕ
+F = hexBytes (typedLines linesF)
+
+-- what the dump prints of them
+unfoldable pub framesF : List String
+framesF =
+    "0030 0000 0003 0003 0000 0000 6E696C E0A0E0"
+    ∷ "0031 0001 0003 0003 0000 0000 6F6E65 404040"
+    ∷ []

@@ -1,0 +1,4 @@
+pub mod Typed
+pub mod FontF
+pub mod Seen
+pub mod Cases

@@ -1,0 +1,1 @@
+// The promises: theorems about the definitions and contracts of the crates below.

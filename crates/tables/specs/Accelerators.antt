@@ -1,0 +1,33 @@
+-- The accelerators. From document 01: "Accelerators: 48 bytes: format, eight flag bytes, three i32, minimum and maximum bounds of
+-- 12 bytes each."
+use Prim.Native.Nat.{ℕ, _+_}
+use mathlib.Core.Bool.{cond}
+use mathlib.Core.List.{List}
+use lib.Dec.{ltb}
+use Rattle.reads.specs.Num.{byteAt, i32At}
+use Rattle.tables.specs.Format.{formatAt, bigBit}
+use Rattle.tables.specs.Metrics.{wideAt}
+use Rattle.tables.specs.declared.AcceleratorRead.{AcceleratorRead}
+
+-- the table whose bytes begin at `at`, `room` of them
+unfoldable pub acceleratorsAt : List ℕ → ℕ → ℕ → AcceleratorRead
+acceleratorsAt s at room =
+    let format = formatAt s at in
+    let big = bigBit format in
+    cond (ltb room 48) (AcceleratorRead.Refused 6)
+    (AcceleratorRead.Table (record {
+      format = format;
+      noOverlap = byteAt s (at + 4);
+      constantMetrics = byteAt s (at + 5);
+      terminalFont = byteAt s (at + 6);
+      constantWidth = byteAt s (at + 7);
+      inkInside = byteAt s (at + 8);
+      inkMetrics = byteAt s (at + 9);
+      drawDirection = byteAt s (at + 10);
+      padding = byteAt s (at + 11);
+      fontAscent = i32At big s (at + 12);
+      fontDescent = i32At big s (at + 16);
+      maxOverlap = i32At big s (at + 20);
+      minbounds = wideAt big s (at + 24);
+      maxbounds = wideAt big s (at + 36);
+    }))

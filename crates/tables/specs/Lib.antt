@@ -1,0 +1,9 @@
+pub mod Format
+pub mod Properties
+pub mod Accelerators
+pub mod Metrics
+pub mod Bitmaps
+pub mod Codes
+pub mod Names
+pub mod Fits
+pub mod Values

@@ -1,0 +1,133 @@
+// A font's record: what loading keeps of the six tables, as numbers beside the font's own bytes.
+// The parts bear 000's names. A record is plain data that a caller may have made up, so every call
+// that takes one tests it first (specs/Fits.antt).
+
+// Table 1. `count` property records of 9 bytes from `records` on; string data from `strings` on.
+#[repr(C)]
+pub struct PropertiesData {
+    pub big: bool,
+    pub count: u32,
+    pub records: usize,
+    pub strings: usize,
+    pub size: usize,
+}
+
+// A glyph's metrics, or the bounds of all glyphs, in pixels.
+#[repr(C)]
+pub struct MetricsUnpacked {
+    pub left: i16,
+    pub right: i16,
+    pub width: i16,
+    pub ascent: i16,
+    pub descent: i16,
+    pub attributes: u16,
+}
+
+// Tables 2 and 256, as values: the record needs none of the table's bytes later.
+#[repr(C)]
+pub struct AcceleratorUnpacked {
+    pub format: u32,
+    pub noOverlap: u8,
+    pub constantMetrics: u8,
+    pub terminalFont: u8,
+    pub constantWidth: u8,
+    pub inkInside: u8,
+    pub inkMetrics: u8,
+    pub drawDirection: u8,
+    pub padding: u8,
+    pub fontAscent: i32,
+    pub fontDescent: i32,
+    pub maxOverlap: i32,
+    pub minbounds: MetricsUnpacked,
+    pub maxbounds: MetricsUnpacked,
+}
+
+// Table 4. `count` records of 5 bytes (compressed) or 12 from `records` on.
+#[repr(C)]
+pub struct MetricsData {
+    pub big: bool,
+    pub compressed: bool,
+    pub count: u32,
+    pub records: usize,
+}
+
+// Table 8. `count` offsets from `offsets` on, into the bitmap data of `size` bytes from `bits` on.
+// A row is padded to a multiple of `pad` bytes. `unit` is the format's scan unit code, `top` whether
+// a byte's top bit is its leftmost.
+#[repr(C)]
+pub struct BitmapData {
+    pub big: bool,
+    pub count: u32,
+    pub offsets: usize,
+    pub bits: usize,
+    pub size: usize,
+    pub pad: u8,
+    pub unit: u8,
+    pub top: bool,
+}
+
+// Table 32. The bounds of a code's second and first byte, the default code, and the entries: `size`
+// bytes from `entries` on.
+#[repr(C)]
+pub struct EncodingData {
+    pub big: bool,
+    pub low2: u16,
+    pub high2: u16,
+    pub low1: u16,
+    pub high1: u16,
+    pub default: u16,
+    pub entries: usize,
+    pub size: usize,
+}
+
+// Table 128. `count` offsets from `offsets` on, into the string data of `size` bytes from `strings`.
+#[repr(C)]
+pub struct GlyphNameData {
+    pub big: bool,
+    pub count: u32,
+    pub offsets: usize,
+    pub strings: usize,
+    pub size: usize,
+}
+
+#[repr(C)]
+pub struct Record {
+    pub props: PropertiesData,
+    pub accel: AcceleratorUnpacked,
+    pub metrics: MetricsData,
+    pub bitmaps: BitmapData,
+    pub codes: EncodingData,
+    pub names: GlyphNameData,
+}
+
+// What reading a table from its bytes gives: the table, or the refusal's number, 6 or 7.
+
+pub enum PropertiesRead {
+    Table(PropertiesData),
+    Refused(u8),
+}
+
+pub enum AcceleratorRead {
+    Table(AcceleratorUnpacked),
+    Refused(u8),
+}
+
+pub enum MetricsRead {
+    Table(MetricsData),
+    Refused(u8),
+}
+
+pub enum BitmapRead {
+    Table(BitmapData),
+    Refused(u8),
+}
+
+pub enum EncodingRead {
+    Table(EncodingData),
+    Refused(u8),
+}
+
+pub enum GlyphNameRead {
+    Table(GlyphNameData),
+    Refused(u8),
+}

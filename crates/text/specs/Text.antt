@@ -1,0 +1,68 @@
+-- `draw_string`. From document 01: "In calls: 6, 15, 19, then the font's bounds (11 [...]), then per character"; "In a text, the
+-- first character with a refusal decides"; "Answer: y + line height, and the sum of height - rows drawn."
+use Prim.Native.Nat.{ℕ, _+_}
+use mathlib.Core.Bool.{Bool, false, cond, _||_}
+use mathlib.Core.List.{List, [], _∷_}
+use lib.ListN.{length}
+use lib.Dec.{leb}
+use lib.IntN.{pos}
+use Rattle.reads.specs.Said.{Said, refusal, says, refuses}
+use Rattle.tables.specs.Fits.{recordFits}
+use Rattle.tables.specs.declared.Record.{Record}
+use Rattle.bitmaps.specs.Paint.{painted}
+use Rattle.bitmaps.specs.Limits.{okPlace}
+use Rattle.place.specs.Bounds.{boundsHold, boundsOf}
+use Rattle.utf8.specs.Decode.{Char, Decoded, chars, refused, decoded}
+use Rattle.text.specs.Walk.{origin, lineHeight, placed, advanced, penAfter, inPlaced}
+use Rattle.text.specs.declared.Layout.{Layout}
+use Rattle.text.specs.declared.Pen.{Pen}
+use Rattle.text.specs.declared.Advanced.{Advanced}
+use Rattle.text.specs.declared.TextDrawn.{TextDrawn}
+
+abbrev pub afterChar : Advanced → ℕ → (Pen → ℕ → TextDrawn) → TextDrawn
+afterChar (Advanced.Next pen dropped) byte rest = rest pen dropped
+afterChar (Advanced.Refused n) byte rest = TextDrawn.Refused (refusal n byte)
+
+-- the characters that are left, into `len` pixels, with the pen here and so many rows dropped before
+unfoldable pub textFrom : List ℕ → Record → Layout → ℕ → List Char → Pen → ℕ → TextDrawn
+textFrom s rec lay len [] pen dropped = TextDrawn.Done (record { height = pen .y + lineHeight rec (lay .scale); dropped = dropped })
+textFrom s rec lay len (c ∷ cs) pen dropped =
+    afterChar (advanced s rec lay len (placed s rec lay (c .code) pen)) (c .byte)
+    (λ next more. textFrom s rec lay len cs next (dropped + more))
+
+-- pixel k is one that these characters colour
+unfoldable pub inText : List ℕ → Record → Layout → ℕ → List Char → Pen → ℕ → Bool
+inText s rec lay len [] pen k = false
+inText s rec lay len (c ∷ cs) pen k =
+    let p = placed s rec lay (c .code) pen in
+    inPlaced s rec lay len p k || inText s rec lay len cs (penAfter lay p pen) k
+
+-- the characters of a text of at most 65,535 bytes: 19, then 11 for the bounds
+abbrev pub textOf : List ℕ → Record → Layout → ℕ → Decoded → TextDrawn
+textOf s rec lay len (chars cs) =
+    cond (boundsHold (boundsOf rec)) (textFrom s rec lay len cs origin 0) (TextDrawn.Refused (refusal 11 0))
+textOf s rec lay len (refused r) = TextDrawn.Refused r
+
+-- `draw_string`: 6, 15, 19, 11, then per character
+unfoldable pub drawString : List ℕ → Record → List ℕ → ℕ → Layout → TextDrawn
+drawString s rec text len lay =
+    cond (recordFits (length s) rec)
+    (cond (okPlace (lay .start) (lay .stride) (lay .scale))
+    (cond (leb (length text) 65535) (textOf s rec lay len (decoded text))
+    (TextDrawn.Refused (refusal 19 0)))
+    (TextDrawn.Refused (refusal 15 0)))
+    (TextDrawn.Refused (refusal 6 0))
+
+abbrev pub charsOf : Decoded → List Char
+charsOf (chars cs) = cs
+charsOf (refused r) = []
+
+-- what `draw_string` leaves in the buffer
+abbrev pub stringLeaves : List ℕ → Record → List ℕ → Layout → ℕ → TextDrawn → List ℕ → List ℕ
+stringLeaves s rec text lay colour (TextDrawn.Done t) old =
+    painted (inText s rec lay (length old) (charsOf (decoded text)) origin) colour old
+stringLeaves s rec text lay colour (TextDrawn.Refused r) old = old
+
+abbrev pub saidText : TextDrawn → Said
+saidText (TextDrawn.Done t) = says (pos (t .height) ∷ pos (t .dropped) ∷ [])
+saidText (TextDrawn.Refused r) = refuses r

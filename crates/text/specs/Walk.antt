@@ -1,0 +1,102 @@
+-- The pen's walk over a text. From document 01: "Texts: x = y = 0; carriage return is skipped; newline sets x to 0 and adds the line
+-- height (scale × bounds' sum) to y; a code without glyph is skipped; if x + width × scale >= wrap_at, the same as a newline first;
+-- draw at start + y × stride + x; x grows by width × scale."
+use Prim.Native.Nat.{ℕ, _+_, _*_}
+use mathlib.Core.Bool.{Bool, true, false, cond}
+use mathlib.Core.List.{List}
+use lib.Dec.{leb, eqb}
+use lib.IntN.{natAbs}
+use Rattle.tables.specs.declared.Record.{Record}
+use Rattle.lookup.specs.Lookup.{glyphOf}
+use Rattle.lookup.specs.declared.Found.{Found}
+use Rattle.bitmaps.specs.declared.Drawn.{Drawn}
+use Rattle.place.specs.Bounds.{heightOf, boundsOf}
+use Rattle.place.specs.Info.{infoOf}
+use Rattle.place.specs.Glyph.{glyphDrawn, inInfo}
+use Rattle.place.specs.declared.GlyphInfo.{GlyphInfo}
+use Rattle.place.specs.declared.Prepared.{Prepared}
+use Rattle.text.specs.declared.Wrap.{Wrap}
+use Rattle.text.specs.declared.Layout.{Layout}
+use Rattle.text.specs.declared.Pen.{Pen}
+use Rattle.text.specs.declared.Placed.{Placed}
+use Rattle.text.specs.declared.Advanced.{Advanced}
+
+-- "x = y = 0"
+abbrev pub origin : Pen
+origin = record { x = 0; y = 0 }
+
+-- "the line height (scale × bounds' sum)"
+abbrev pub lineHeight : Record → ℕ → ℕ
+lineHeight rec scale = scale * natAbs (heightOf (boundsOf rec))
+
+-- "newline sets x to 0 and adds the line height [...] to y"
+abbrev pub newline : ℕ → Pen → Pen
+newline line pen = record { x = 0; y = pen .y + line }
+
+-- how far a glyph moves the pen: "width × scale"
+abbrev pub advanceOf : Layout → GlyphInfo → ℕ
+advanceOf lay i = i .width * lay .scale
+
+-- "x grows by width × scale"
+abbrev pub moved : Layout → GlyphInfo → Pen → Pen
+moved lay i pen = record { x = pen .x + advanceOf lay i; y = pen .y }
+
+-- "x + width × scale >= wrap_at"
+abbrev pub reaches : Wrap → ℕ → Bool
+reaches (Wrap.At w) x = leb w x
+reaches Wrap.Never x = false
+
+-- "if x + width × scale >= wrap_at, the same as a newline first"
+abbrev pub wrapped : Record → Layout → GlyphInfo → Pen → Pen
+wrapped rec lay i pen = cond (reaches (lay .wrap) (pen .x + advanceOf lay i)) (newline (lineHeight rec (lay .scale)) pen) pen
+
+abbrev pub placeInfo : Record → Layout → Pen → Prepared → Placed
+placeInfo rec lay pen (Prepared.Info i) = Placed.Glyph (wrapped rec lay i pen) i
+placeInfo rec lay pen (Prepared.Refused r) = Placed.Refused (r .number)
+
+-- "a code without glyph is skipped"
+abbrev pub placeFound : List ℕ → Record → Layout → Pen → Found → Placed
+placeFound s rec lay pen (Found.Glyph g) = placeInfo rec lay pen (infoOf s rec g)
+placeFound s rec lay pen (Found.Refused r) = Placed.Skip pen
+
+-- what a character does with the pen here
+unfoldable pub placed : List ℕ → Record → Layout → ℕ → Pen → Placed
+placed s rec lay code pen =
+    cond (eqb code 13) (Placed.Skip pen)
+    (cond (eqb code 10) (Placed.Skip (newline (lineHeight rec (lay .scale)) pen))
+    (placeFound s rec lay pen (glyphOf s (rec .codes) code)))
+
+-- "draw at start + y × stride + x"
+abbrev pub spot : Layout → Pen → ℕ
+spot lay pen = lay .start + pen .y * lay .stride + pen .x
+
+-- a glyph drawn with the pen there, into `len` pixels
+abbrev pub drawnFrom : List ℕ → Record → Layout → ℕ → Pen → GlyphInfo → Drawn
+drawnFrom s rec lay len pen i = glyphDrawn s (rec .bitmaps) i len (spot lay pen) (lay .stride) (lay .scale)
+
+abbrev pub advance : Layout → Pen → GlyphInfo → Drawn → Advanced
+advance lay pen i (Drawn.Rows r) = Advanced.Next (moved lay i pen) (r .dropped)
+advance lay pen i (Drawn.Refused r) = Advanced.Refused (r .number)
+
+-- the pen and the dropped rows after what was placed, into `len` pixels
+abbrev pub advanced : List ℕ → Record → Layout → ℕ → Placed → Advanced
+advanced s rec lay len (Placed.Skip pen) = Advanced.Next pen 0
+advanced s rec lay len (Placed.Glyph pen i) = advance lay pen i (drawnFrom s rec lay len pen i)
+advanced s rec lay len (Placed.Refused n) = Advanced.Refused n
+
+-- the pen alone
+abbrev pub penAfter : Layout → Placed → Pen → Pen
+penAfter lay (Placed.Skip pen) old = pen
+penAfter lay (Placed.Glyph pen i) old = moved lay i pen
+penAfter lay (Placed.Refused n) old = old
+
+abbrev pub rowsIn : Drawn → ℕ
+rowsIn (Drawn.Rows r) = r .drawn
+rowsIn (Drawn.Refused r) = 0
+
+-- pixel k is one that what was placed colours
+abbrev pub inPlaced : List ℕ → Record → Layout → ℕ → Placed → ℕ → Bool
+inPlaced s rec lay len (Placed.Skip pen) k = false
+inPlaced s rec lay len (Placed.Glyph pen i) k =
+    inInfo s (rec .bitmaps) i (spot lay pen) (lay .stride) (lay .scale) (rowsIn (drawnFrom s rec lay len pen i)) k
+inPlaced s rec lay len (Placed.Refused n) k = false

@@ -1,0 +1,49 @@
+// Texts: the pen walks over the characters, and each glyph is drawn where the pen stands.
+use place::GlyphInfo;
+use reads::Refusal;
+
+// Where a line ends: before a glyph that would reach this many pixels, or nowhere.
+pub enum Wrap {
+    At(u64),
+    Never,
+}
+
+// Where and how a text is set.
+pub struct Layout {
+    pub start: usize,
+    pub wrap: Wrap,
+    pub stride: usize,
+    pub scale: usize,
+}
+
+// The pen, in pixels right of and below the start.
+pub struct Pen {
+    pub x: usize,
+    pub y: usize,
+}
+
+// What a character does: moves the pen, or has its glyph drawn where the pen then stands, or is
+// refused with this number.
+pub enum Placed {
+    Skip(Pen),
+    Glyph(Pen, GlyphInfo),
+    Refused(u8),
+}
+
+// The pen after a character and the rows that its glyph lost, or the refusal's number.
+pub enum Advanced {
+    Next(Pen, usize),
+    Refused(u8),
+}
+
+// The height that a text took, in pixels, and how many rows of its glyphs were cut off.
+#[repr(C)]
+pub struct TextRows {
+    pub height: usize,
+    pub dropped: usize,
+}
+
+pub enum TextDrawn {
+    Done(TextRows),
+    Refused(Refusal),
+}

@@ -1,0 +1,18 @@
+// Stepping through UTF-8.
+use reads::CharCode;
+use reads::Refusal;
+
+// The character at a place and the place after it; or the text's end; or 19 where none starts.
+pub enum Step {
+    Char(CharCode, usize),
+    End,
+    Refused(Refusal),
+}
+
+// What a first byte says: how many bytes the character takes (0: none starts so), and the range of
+// its second byte.
+pub struct Lead {
+    pub size: u8,
+    pub low: u8,
+    pub high: u8,
+}

@@ -1,0 +1,88 @@
+-- Vetting. From document 01: "Passes when loading does and, in this order: no 13; the bounds hold (11); every property's strings end
+-- (18); then for each code 0 to 65,535 that has a glyph: 10, 11, 12, 14 over all rows, 17, 18 don't occur. Otherwise the first failure
+-- and its place": "in vetting, for a property the property's number, for a code the code".
+use Prim.Native.Nat.{ℕ}
+use mathlib.Core.Bool.{Bool, cond}
+use mathlib.Core.List.{List}
+use lib.ListN.{length}
+use Rattle.reads.specs.Said.{Said, refusal, says, refuses}
+use Rattle.tables.specs.Values.{recordValues}
+use Rattle.tables.specs.declared.BitmapData.{BitmapData}
+use Rattle.tables.specs.declared.Record.{Record}
+use Rattle.load.specs.Load.{loaded}
+use Rattle.load.specs.declared.Loaded.{Loaded}
+use Rattle.lookup.specs.Lookup.{glyphOf}
+use Rattle.lookup.specs.declared.Found.{Found}
+use Rattle.names.specs.Names.{nameOf}
+use Rattle.names.specs.declared.Named.{Named}
+use Rattle.props.specs.Props.{propOf}
+use Rattle.props.specs.declared.PropFound.{PropFound}
+use Rattle.bitmaps.specs.Rows.{rowStride, bytesPast}
+use Rattle.bitmaps.specs.Draw.{bitsOf, offsetOf, noBitmap, unreadable}
+use Rattle.place.specs.Bounds.{boundsHold, boundsOf}
+use Rattle.place.specs.Info.{infoOf}
+use Rattle.place.specs.declared.GlyphInfo.{GlyphInfo}
+use Rattle.place.specs.declared.Prepared.{Prepared}
+use Rattle.vet.specs.First.{firstFault}
+use Rattle.vet.specs.declared.First.{First}
+use Rattle.vet.specs.declared.Vetted.{Vetted}
+
+-- "every property's strings end (18)"
+abbrev pub propFault : PropFound → ℕ
+propFault (PropFound.Property p) = 0
+propFault (PropFound.Refused r) = r .number
+
+-- 17, 18
+abbrev pub nameFault : Named → ℕ
+nameFault (Named.Name p) = 0
+nameFault (Named.Refused r) = r .number
+
+-- "14 over all rows"
+abbrev pub rowsMissing : List ℕ → BitmapData → GlyphInfo → Bool
+rowsMissing s b i = bytesPast (length (bitsOf s b)) (offsetOf s b (i .glyph .0)) (rowStride (i .width) (b .pad)) (i .width) (i .height)
+
+-- of a placed glyph: 12, 14, 17, 18
+abbrev pub boxFault : List ℕ → Record → GlyphInfo → ℕ
+boxFault s rec i =
+    cond (noBitmap (rec .bitmaps) (i .glyph .0)) 12
+    (cond (rowsMissing s (rec .bitmaps) i) 14
+    (nameFault (nameOf s (rec .names) (i .glyph .0))))
+
+-- of a glyph: 10, 11, then those
+abbrev pub glyphFault : List ℕ → Record → Prepared → ℕ
+glyphFault s rec (Prepared.Info i) = boxFault s rec i
+glyphFault s rec (Prepared.Refused r) = r .number
+
+-- only codes that have a glyph are tested
+abbrev pub foundFault : List ℕ → Record → Found → ℕ
+foundFault s rec (Found.Glyph g) = glyphFault s rec (infoOf s rec g)
+foundFault s rec (Found.Refused r) = 0
+
+unfoldable pub codeFault : List ℕ → Record → ℕ → ℕ
+codeFault s rec code = foundFault s rec (glyphOf s (rec .codes) code)
+
+abbrev pub afterFirst : First → Vetted → Vetted
+afterFirst First.Clear rest = rest
+afterFirst (First.At n k) rest = Vetted.Refused (refusal n k)
+
+-- the conditions on a record that loading gave, in order
+unfoldable pub vetRecord : List ℕ → Record → Vetted
+vetRecord s rec =
+    cond (unreadable (rec .bitmaps)) (Vetted.Refused (refusal 13 0))
+    (cond (boundsHold (boundsOf rec))
+    (afterFirst (firstFault (λ i. propFault (propOf s (rec .props) i)) (rec .props .count) 0)
+    (afterFirst (firstFault (codeFault s rec) 65536 0)
+    (Vetted.Passed rec)))
+    (Vetted.Refused (refusal 11 0)))
+
+abbrev pub vetLoaded : List ℕ → Loaded → Vetted
+vetLoaded s (Loaded.Font rec) = vetRecord s rec
+vetLoaded s (Loaded.Refused r) = Vetted.Refused r
+
+-- `vet`: "A passed font is such bytes with the record that loading gave for them"
+unfoldable pub vetted : List ℕ → Vetted
+vetted s = vetLoaded s (loaded s)
+
+abbrev pub saidVetted : Vetted → Said
+saidVetted (Vetted.Passed r) = says (recordValues r)
+saidVetted (Vetted.Refused r) = refuses r
