@@ -2,5 +2,6 @@ pub mod Paint
 pub mod Limits
 pub mod Rows
 pub mod Dots
+pub mod Picture
 pub mod Draw
 pub mod Unpack

@@ -1,7 +1,7 @@
 -- What colouring leaves in a buffer: "each defined pixel has the colour, every other pixel keeps its value". Which pixels are
 -- defined is a rule on places, built of searches over bounded numbers, as the sentences of document 01 are.
 use Prim.Native.Nat.{ℕ, zero, suc}
-use mathlib.Core.Bool.{Bool, true, false, cond, _||_}
+use mathlib.Core.Bool.{Bool, false, cond, _||_}
 use mathlib.Core.List.{List, [], _∷_}
 
 -- some number below n passes the test

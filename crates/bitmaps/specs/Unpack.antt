@@ -3,14 +3,12 @@
 use Prim.Native.Nat.{ℕ, _*_}
 use mathlib.Core.Bool.{Bool, cond}
 use mathlib.Core.List.{List, [], _∷_}
-use lib.ListN.{length}
 use lib.IntN.{pos}
 use Rattle.reads.specs.Said.{Said, refusal, says, refuses}
 use Rattle.tables.specs.declared.BitmapData.{BitmapData}
 use Rattle.bitmaps.specs.Paint.{painted}
-use Rattle.bitmaps.specs.Rows.{rowBytes, rowStride, bytesPast}
-use Rattle.bitmaps.specs.Dots.{inBitmap, pixelsPast}
-use Rattle.bitmaps.specs.Draw.{bitsOf, offsetOf, unreadable}
+use Rattle.bitmaps.specs.Rows.{rowBytes}
+use Rattle.bitmaps.specs.Picture.{unreadable, rowsShort, inPicture, pixelPast}
 use Rattle.bitmaps.specs.declared.Unpacked.{Unpacked}
 
 -- the columns of "every whole row byte"
@@ -20,18 +18,14 @@ wholeColumns width = 8 * rowBytes width
 -- glyph g, which has a bitmap, at place p of `len` bytes: 13, 14, 16, or all its rows
 unfoldable pub unpackedAt : List ℕ → BitmapData → ℕ → ℕ → ℕ → ℕ → ℕ → ℕ → Unpacked
 unpackedAt s b g width height len p stride =
-    let bits = bitsOf s b in
-    let off = offsetOf s b g in
-    let rs = rowStride width (b .pad) in
     cond (unreadable b) (Unpacked.Refused (refusal 13 0))
-    (cond (bytesPast (length bits) off rs width height) (Unpacked.Refused (refusal 14 0))
-    (cond (pixelsPast bits off rs p stride 1 (wholeColumns width) height len) (Unpacked.Refused (refusal 16 0))
+    (cond (rowsShort s b g width height) (Unpacked.Refused (refusal 14 0))
+    (cond (pixelPast s b g width (wholeColumns width) p stride 1 height len) (Unpacked.Refused (refusal 16 0))
     (Unpacked.Rows height)))
 
 -- byte i is one where unpacking n rows of glyph g at p stores 1
-unfoldable pub inUnpacked : List ℕ → BitmapData → ℕ → ℕ → ℕ → ℕ → ℕ → ℕ → Bool
-inUnpacked s b g width p stride n i =
-    inBitmap (bitsOf s b) (offsetOf s b g) (rowStride width (b .pad)) p stride 1 (wholeColumns width) n i
+abbrev pub inUnpacked : List ℕ → BitmapData → ℕ → ℕ → ℕ → ℕ → ℕ → ℕ → Bool
+inUnpacked s b g width p stride n i = inPicture s b g width (wholeColumns width) p stride 1 n i
 
 abbrev pub unpackedLeaves : List ℕ → BitmapData → ℕ → ℕ → ℕ → ℕ → Unpacked → List ℕ → List ℕ
 unpackedLeaves s b g width p stride (Unpacked.Rows n) old = painted (inUnpacked s b g width p stride n) 1 old

@@ -1,7 +1,7 @@
 -- What the dump prints. From document 01: "It vets and prints one frame a line for each code with a glyph [...]. Or the single line
 -- `refused NN`, two decimal digits, 20 being tested before all else."
 use Prim.Native.Nat.{ℕ, _+_, _/_, _%_}
-use mathlib.Core.List.{List, [], _∷_, _++_}
+use mathlib.Core.List.{List, [], _∷_}
 use Rattle.hexline.specs.Lines.{hexRead, hexBytes}
 use Rattle.hexline.specs.declared.HexRead.{HexRead}
 use Rattle.vet.specs.Vet.{vetted}

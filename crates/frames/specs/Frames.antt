@@ -1,6 +1,6 @@
 -- The dump's frames. From document 01: "one frame a line for each code with a glyph, ascending: code, glyph, width, height, pad top,
 -- pad left (four hexadecimal digits each), name bytes, row bytes without padding ("-" where either has none)".
-use Prim.Native.Nat.{ℕ, zero, suc, _+_, _*_, _/_, _%_}
+use Prim.Native.Nat.{ℕ, zero, suc, _+_, _/_, _%_}
 use mathlib.Core.Bool.{cond}
 use mathlib.Core.List.{List, [], _∷_, _++_}
 use lib.ListN.{getD}
@@ -11,7 +11,7 @@ use Rattle.lookup.specs.Lookup.{glyphOf}
 use Rattle.lookup.specs.declared.Found.{Found}
 use Rattle.names.specs.Names.{nameOf, nameBytes}
 use Rattle.bitmaps.specs.Rows.{rowBytes, rowStride}
-use Rattle.bitmaps.specs.Draw.{bitsOf, offsetOf}
+use Rattle.bitmaps.specs.Picture.{bitsOf, offsetOf}
 use Rattle.place.specs.Info.{infoOf}
 use Rattle.place.specs.declared.GlyphInfo.{GlyphInfo}
 use Rattle.place.specs.declared.Prepared.{Prepared}

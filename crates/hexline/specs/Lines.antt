@@ -7,6 +7,7 @@ use mathlib.Core.List.{List, [], _∷_, _++_}
 use lib.ListN.{length}
 use lib.Dec.{ltb, leb, eqb}
 use lib.IntN.{pos}
+use Rattle.reads.specs.Range.{between}
 use Rattle.reads.specs.Said.{Said, refusal, says, refuses}
 use Rattle.hexline.specs.declared.HexRead.{HexRead}
 
@@ -29,8 +30,8 @@ linesOf (c ∷ cs) =
 -- the value of an upper-case hexadecimal digit; 16 for any other character
 unfoldable pub digitOf : ℕ → ℕ
 digitOf c =
-    cond (leb 48 c && leb c 57) (c - 48)
-    (cond (leb 65 c && leb c 70) (c - 55) 16)
+    cond (between 48 57 c) (c - 48)
+    (cond (between 65 70 c) (c - 55) 16)
 
 abbrev pub allDigits : List ℕ → Bool
 allDigits [] = true
@@ -38,7 +39,7 @@ allDigits (c ∷ cs) = ltb (digitOf c) 16 && allDigits cs
 
 -- "2 to 64 upper-case hexadecimal digits, even in number"
 unfoldable pub goodLine : List ℕ → Bool
-goodLine l = leb 2 (length l) && leb (length l) 64 && eqb (length l % 2) 0 && allDigits l
+goodLine l = between 2 64 (length l) && eqb (length l % 2) 0 && allDigits l
 
 abbrev pub isEmpty : List ℕ → Bool
 isEmpty [] = true

@@ -1,6 +1,5 @@
 -- What the directory has given so far, and what a table adds to it. From document 01: "A repeated type is checked each time and
 -- the last one serves; types 2 and 256 both give the accelerators. Six kinds must be present."
-use Prim.Native.Nat.{ℕ}
 use mathlib.Core.Bool.{Bool, true, false, cond, _&&_}
 use lib.IntN.{pos}
 use Rattle.reads.specs.Said.{refusal}

@@ -3,9 +3,10 @@ use Prim.Native.Nat.{ℕ, _+_, _-_, _*_, _/_, _%_}
 use mathlib.Core.Bool.{Bool, cond, _&&_}
 use mathlib.Core.List.{List, [], _∷_}
 use lib.ListN.{length}
-use lib.Dec.{ltb, leb, eqb}
+use lib.Dec.{ltb, eqb}
 use lib.IntN.{pos}
 use Rattle.reads.specs.Num.{u16At}
+use Rattle.reads.specs.Range.{between}
 use Rattle.reads.specs.Said.{Said, refusal, says, refuses}
 use Rattle.tables.specs.Fits.{recordFits}
 use Rattle.tables.specs.declared.EncodingData.{EncodingData}
@@ -16,10 +17,6 @@ use Rattle.lookup.specs.declared.Slot.{Slot}
 -- "If both first-byte bounds are 0"
 abbrev pub oneByte : EncodingData → Bool
 oneByte c = eqb (c .low1) 0 && eqb (c .high1) 0
-
--- low <= n <= high
-abbrev pub between : ℕ → ℕ → ℕ → Bool
-between low high n = leb low n && leb n high
 
 -- "the index is code - low2, for low2 <= code <= high2"
 abbrev pub slotWhole : EncodingData → ℕ → Slot

@@ -9,7 +9,8 @@ use Rattle.tables.specs.Fits.{recordFits}
 use Rattle.tables.specs.declared.BitmapData.{BitmapData}
 use Rattle.tables.specs.declared.Record.{Record}
 use Rattle.bitmaps.specs.Limits.{okPlace, okPair}
-use Rattle.bitmaps.specs.Draw.{noBitmap, shownAt, shownLeaves, inGlyph}
+use Rattle.bitmaps.specs.Picture.{noBitmap}
+use Rattle.bitmaps.specs.Draw.{shownAt, shownLeaves, inGlyph}
 use Rattle.bitmaps.specs.declared.Drawn.{Drawn}
 use Rattle.place.specs.declared.GlyphInfo.{GlyphInfo}
 

@@ -8,7 +8,7 @@ use Rattle.tables.specs.Fits.{recordFits}
 use Rattle.tables.specs.declared.BitmapData.{BitmapData}
 use Rattle.tables.specs.declared.Record.{Record}
 use Rattle.bitmaps.specs.Limits.{okPlace}
-use Rattle.bitmaps.specs.Draw.{noBitmap}
+use Rattle.bitmaps.specs.Picture.{noBitmap}
 use Rattle.bitmaps.specs.Unpack.{unpackedAt, unpackedLeaves}
 use Rattle.bitmaps.specs.declared.Unpacked.{Unpacked}
 use Rattle.place.specs.Glyph.{placeOf, okInfo}

@@ -1,6 +1,5 @@
 -- F's dump, computed from the definitions, is what document 01 prints.
 use mathlib.Core.Path.{_≡_, refl}
-use Prim.Native.Nat.{ℕ}
 use Rattle.reads.specs.Num.{digits, numAt, signed, less128}
 use Rattle.tables.specs.Properties.{propertiesAt}
 use Rattle.tables.specs.Accelerators.{acceleratorsAt}
@@ -17,6 +16,7 @@ use Rattle.names.specs.Names.{nameOf}
 use Rattle.props.specs.Props.{propOf}
 use Rattle.bitmaps.specs.Paint.{some}
 use Rattle.bitmaps.specs.Rows.{bytesPast}
+use Rattle.bitmaps.specs.Picture.{rowsShort}
 use Rattle.place.specs.Bounds.{boundsHold}
 use Rattle.place.specs.Info.{placeable, infoOf}
 use Rattle.vet.specs.First.{firstFault}
@@ -28,5 +28,5 @@ use Rattle.promises.specs.Typed.{typed, typedLines}
 use Rattle.promises.specs.FontF.{linesF, framesF}
 
 pub dump-F : dumped (typedLines linesF) ≡ typedLines framesF
-unfolding linesF framesF typed typedLines hexBytes linesOf digitOf goodLine bytesFrom hexRead digits numAt signed less128 propertiesAt acceleratorsAt wideAt narrowAt metricsAt bitmapsAt codesOf codesAt namesAt finished tableOf entryOf entryAt entriesFrom loaded slotOf glyphOf metricsOf zeroFrom stringAt nameOf propOf some bytesPast boundsHold placeable infoOf firstFault codeFault vetRecord vetted hexDigit field bytesAt rowsAt frame frameOf framesFrom dumped
+unfolding linesF framesF typed typedLines hexBytes linesOf digitOf goodLine bytesFrom hexRead digits numAt signed less128 propertiesAt acceleratorsAt wideAt narrowAt metricsAt bitmapsAt codesOf codesAt namesAt finished tableOf entryOf entryAt entriesFrom loaded slotOf glyphOf metricsOf zeroFrom stringAt nameOf propOf some bytesPast rowsShort boundsHold placeable infoOf firstFault codeFault vetRecord vetted hexDigit field bytesAt rowsAt frame frameOf framesFrom dumped
 dump-F = refl

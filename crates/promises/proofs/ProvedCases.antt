@@ -1,5 +1,5 @@
 -- P1 to P10 hold of the definitions: what is seen of font F, loaded from its bytes, is what document 01 says.
-use mathlib.Core.Path.{_≡_, refl}
+use mathlib.Core.Path.{refl}
 use Rattle.reads.specs.Num.{digits, numAt, signed, less128}
 use Rattle.tables.specs.Properties.{propertiesAt}
 use Rattle.tables.specs.Accelerators.{acceleratorsAt}
@@ -15,7 +15,8 @@ use Rattle.metrics.specs.Measure.{metricsOf, getMetrics}
 use Rattle.bitmaps.specs.Paint.{some, painted}
 use Rattle.bitmaps.specs.Rows.{bitAt, bytesPast}
 use Rattle.bitmaps.specs.Dots.{someDot}
-use Rattle.bitmaps.specs.Draw.{shownAt, inGlyph}
+use Rattle.bitmaps.specs.Picture.{rowsShort, glyphDot}
+use Rattle.bitmaps.specs.Draw.{shownAt}
 use Rattle.place.specs.Bounds.{boundsHold}
 use Rattle.place.specs.Info.{placeable, infoOf, prepared}
 use Rattle.place.specs.Glyph.{glyphDrawn}
@@ -29,8 +30,8 @@ use Rattle.hexline.specs.Lines.{linesOf, digitOf, hexBytes}
 use Rattle.promises.specs.Typed.{typed, typedLines}
 use Rattle.promises.specs.FontF.{linesF, F}
 use Rattle.promises.specs.Seen.{asked, seen}
-use Rattle.promises.specs.Cases.{table, seenAll, wantAll}
+use Rattle.promises.specs.Cases.{table, Holds}
 
-pub proved-cases : seenAll table ≡ wantAll table
-unfolding table seen asked F linesF typed typedLines hexBytes linesOf digitOf digits numAt signed less128 propertiesAt acceleratorsAt wideAt narrowAt metricsAt bitmapsAt codesOf codesAt namesAt propsFit metricsFit bitmapsFit codesFit namesFit recordFits finished tableOf entryOf entryAt entriesFrom loaded slotOf glyphOf getGlyph metricsOf getMetrics some painted bitAt bytesPast someDot shownAt inGlyph boundsHold placeable infoOf prepared glyphDrawn drawChar find leadOf leads longer stepAt decodeFrom decoded placed textFrom inText drawString
-proved-cases = refl
+pub proved-cases : Holds table
+unfolding table seen asked F linesF typed typedLines hexBytes linesOf digitOf digits numAt signed less128 propertiesAt acceleratorsAt wideAt narrowAt metricsAt bitmapsAt codesOf codesAt namesAt propsFit metricsFit bitmapsFit codesFit namesFit recordFits finished tableOf entryOf entryAt entriesFrom loaded slotOf glyphOf getGlyph metricsOf getMetrics some painted bitAt bytesPast someDot rowsShort glyphDot shownAt boundsHold placeable infoOf prepared glyphDrawn drawChar find leadOf leads longer stepAt decodeFrom decoded placed textFrom inText drawString
+proved-cases = (refl, (refl, (refl, (refl, (refl, (refl, (refl, (refl, (refl, (refl, tt))))))))))

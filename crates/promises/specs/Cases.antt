@@ -1,6 +1,7 @@
 -- Document 01's proved cases P1 to P10, as one table: what is asked of font F, and what is to be seen.
 use Prim.Native.Nat.{ℕ}
-use mathlib.Core.List.{List, [], _∷_, map}
+use mathlib.Core.Path.{_≡_}
+use mathlib.Core.List.{List, [], _∷_}
 use lib.IntN.{ℤ, pos, negsuc}
 use Rattle.reads.specs.Said.{says, refuses, refusal}
 use Rattle.text.specs.declared.Wrap.{Wrap}
@@ -53,8 +54,7 @@ table =
     ∷ case (metric 0x7F) (shows (negsuc 0 ∷ pos 3 ∷ pos 3 ∷ pos 3 ∷ pos 0 ∷ pos 0 ∷ []) [])
     ∷ []
 
-abbrev pub seenAll : List Case → List Seen
-seenAll cases = map (λ (c : Case). seen (c .ask)) cases
-
-abbrev pub wantAll : List Case → List Seen
-wantAll cases = map (λ (c : Case). c .want) cases
+-- each case of a table: what is seen is what is to be seen
+abbrev pub Holds : List Case → Type 0
+Holds [] = Unit {0}
+Holds (c ∷ cs) = (seen (c .ask) ≡ c .want) × Holds cs

@@ -1,2 +1,3 @@
 pub mod Num
+pub mod Range
 pub mod Said

@@ -2,7 +2,7 @@
 -- height (scale × bounds' sum) to y; a code without glyph is skipped; if x + width × scale >= wrap_at, the same as a newline first;
 -- draw at start + y × stride + x; x grows by width × scale."
 use Prim.Native.Nat.{ℕ, _+_, _*_}
-use mathlib.Core.Bool.{Bool, true, false, cond}
+use mathlib.Core.Bool.{Bool, false, cond}
 use mathlib.Core.List.{List}
 use lib.Dec.{leb, eqb}
 use lib.IntN.{natAbs}

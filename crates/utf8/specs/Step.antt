@@ -7,8 +7,9 @@ use lib.ListN.{length}
 use lib.Dec.{ltb, eqb}
 use lib.IntN.{pos}
 use Rattle.reads.specs.Num.{byteAt}
+use Rattle.reads.specs.Range.{between}
 use Rattle.reads.specs.Said.{Said, refusal, says, refuses}
-use Rattle.utf8.specs.Table.{leadOf, within, continues}
+use Rattle.utf8.specs.Table.{leadOf, continues}
 use Rattle.utf8.specs.declared.Step.{Step}
 
 abbrev pub char : ℕ → ℕ → Step
@@ -36,7 +37,7 @@ stepAt s i =
     cond (ltb i (length s))
     (cond (eqb (l .size) 0) (illFormed i)
     (cond (eqb (l .size) 1) (char b₁ (i + 1))
-    (cond (within (l .low) (l .high) b₂) (longer i (l .size) b₁ b₂ (byteAt s (i + 2)) (byteAt s (i + 3)))
+    (cond (between (l .low) (l .high) b₂) (longer i (l .size) b₁ b₂ (byteAt s (i + 2)) (byteAt s (i + 3)))
     (illFormed i))))
     Step.End
 

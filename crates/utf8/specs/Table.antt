@@ -1,8 +1,8 @@
 -- Unicode's Table 3-7, "Well-Formed UTF-8 Byte Sequences": no overlong forms, no surrogates, nothing above U+10FFFF.
 use Prim.Native.Nat.{ℕ}
-use mathlib.Core.Bool.{Bool, cond, _&&_}
+use mathlib.Core.Bool.{Bool, cond}
 use mathlib.Core.List.{List, [], _∷_}
-use lib.Dec.{leb}
+use Rattle.reads.specs.Range.{between}
 use Rattle.utf8.specs.declared.Lead.{Lead}
 
 -- a line of the table: the first byte's range, how many bytes the character takes, the second byte's range
@@ -27,13 +27,10 @@ table =
     ∷ line 0xF4 0xF4 4 0x80 0x8F
     ∷ []
 
-abbrev pub within : ℕ → ℕ → ℕ → Bool
-within low high b = leb low b && leb b high
-
 -- the first line with this first byte; size 0 where there is none
 unfoldable pub find : List Line → ℕ → Lead
 find [] b = record { size = 0; low = 0; high = 0 }
-find (l ∷ ls) b = let rest = find ls b in cond (within (l .from) (l .to) b) (l .lead) rest
+find (l ∷ ls) b = let rest = find ls b in cond (between (l .from) (l .to) b) (l .lead) rest
 
 unfoldable pub leadOf : ℕ → Lead
 unfolding find table
@@ -41,4 +38,4 @@ leadOf b = find table b
 
 -- the third and fourth byte of every line
 abbrev pub continues : ℕ → Bool
-continues b = within 0x80 0xBF b
+continues b = between 0x80 0xBF b

@@ -2,12 +2,10 @@
 -- (18); then for each code 0 to 65,535 that has a glyph: 10, 11, 12, 14 over all rows, 17, 18 don't occur. Otherwise the first failure
 -- and its place": "in vetting, for a property the property's number, for a code the code".
 use Prim.Native.Nat.{ℕ}
-use mathlib.Core.Bool.{Bool, cond}
+use mathlib.Core.Bool.{cond}
 use mathlib.Core.List.{List}
-use lib.ListN.{length}
 use Rattle.reads.specs.Said.{Said, refusal, says, refuses}
 use Rattle.tables.specs.Values.{recordValues}
-use Rattle.tables.specs.declared.BitmapData.{BitmapData}
 use Rattle.tables.specs.declared.Record.{Record}
 use Rattle.load.specs.Load.{loaded}
 use Rattle.load.specs.declared.Loaded.{Loaded}
@@ -17,8 +15,7 @@ use Rattle.names.specs.Names.{nameOf}
 use Rattle.names.specs.declared.Named.{Named}
 use Rattle.props.specs.Props.{propOf}
 use Rattle.props.specs.declared.PropFound.{PropFound}
-use Rattle.bitmaps.specs.Rows.{rowStride, bytesPast}
-use Rattle.bitmaps.specs.Draw.{bitsOf, offsetOf, noBitmap, unreadable}
+use Rattle.bitmaps.specs.Picture.{noBitmap, unreadable, rowsShort}
 use Rattle.place.specs.Bounds.{boundsHold, boundsOf}
 use Rattle.place.specs.Info.{infoOf}
 use Rattle.place.specs.declared.GlyphInfo.{GlyphInfo}
@@ -37,15 +34,11 @@ abbrev pub nameFault : Named → ℕ
 nameFault (Named.Name p) = 0
 nameFault (Named.Refused r) = r .number
 
--- "14 over all rows"
-abbrev pub rowsMissing : List ℕ → BitmapData → GlyphInfo → Bool
-rowsMissing s b i = bytesPast (length (bitsOf s b)) (offsetOf s b (i .glyph .0)) (rowStride (i .width) (b .pad)) (i .width) (i .height)
-
--- of a placed glyph: 12, 14, 17, 18
+-- of a placed glyph: 12, "14 over all rows", 17, 18
 abbrev pub boxFault : List ℕ → Record → GlyphInfo → ℕ
 boxFault s rec i =
     cond (noBitmap (rec .bitmaps) (i .glyph .0)) 12
-    (cond (rowsMissing s (rec .bitmaps) i) 14
+    (cond (rowsShort s (rec .bitmaps) (i .glyph .0) (i .width) (i .height)) 14
     (nameFault (nameOf s (rec .names) (i .glyph .0))))
 
 -- of a glyph: 10, 11, then those

@@ -1,0 +1,28 @@
+-- What the cut rule keeps: how many of a glyph's rows are drawn into the buffer that is left from its place on.
+use Prim.Native.Nat.{ℕ, _-_, _*_, _/_, _≤_}
+use mathlib.Core.Path.{_≡_}
+use native.Mathlib.Omega.{arith}
+use native.Mathlib.Nat.{div-mul-le-self, mul-le-mul-right, le-trans, zero-div, min-eq-left}
+use Rattle.bitmaps.specs.Rows.{linesFrom, drawnRows}
+
+module _ (len p stride scale height : ℕ) where
+  -- no row is made up
+  pub drawn-within : drawnRows len p stride scale height ≤ height
+  drawn-within = omega arith
+
+  -- a line that the buffer has only in part does not count
+  pub drawn-lines : drawnRows len p stride scale height * stride ≤ len - p
+  drawn-lines =
+      let lines : linesFrom len p stride / scale * scale ≤ linesFrom len p stride = div-mul-le-self _ _ in
+      let drawn : drawnRows len p stride scale height ≤ linesFrom len p stride = omega arith in
+      le-trans (mul-le-mul-right stride drawn) (div-mul-le-self _ _)
+
+  -- no row is lost where whole groups of `scale` lines hold them all
+  pub drawn-all : height ≤ linesFrom len p stride / scale * scale → drawnRows len p stride scale height ≡ height
+  drawn-all h = min-eq-left h
+
+  -- nothing is drawn from the buffer's end on
+  pub drawn-none : len ≤ p → drawnRows len p stride scale height ≡ 0
+  drawn-none h =
+      let none : len - p ≡ 0 = omega arith in
+      rw (none, zero-div stride, zero-div scale) (omega arith)

@@ -1,0 +1,44 @@
+-- A glyph's bitmap in the font's bytes: its data, the rows that lie in it, its pixels. From document 01, "Reading the tables", bitmaps,
+-- and refusals 12 to 14 and 16.
+use Prim.Native.Nat.{ℕ, _+_, _*_}
+use mathlib.Core.Bool.{Bool, not, _||_}
+use mathlib.Core.List.{List}
+use lib.ListN.{length, take, drop}
+use lib.Dec.{leb, eqb}
+use Rattle.reads.specs.Num.{u32At}
+use Rattle.tables.specs.declared.BitmapData.{BitmapData}
+use Rattle.bitmaps.specs.Rows.{rowStride, bytesPast}
+use Rattle.bitmaps.specs.Dots.{someDot}
+
+-- 12 "glyph at or above the bitmap count"
+abbrev pub noBitmap : BitmapData → ℕ → Bool
+noBitmap b g = leb (b .count) g
+
+-- 13 "scan unit bits not 0, or bit 8 of the format clear"
+abbrev pub unreadable : BitmapData → Bool
+unreadable b = not (eqb (b .unit) 0) || not (b .top)
+
+-- the bitmap data
+abbrev pub bitsOf : List ℕ → BitmapData → List ℕ
+bitsOf s b = take (b .size) (drop (b .bits) s)
+
+-- where glyph g's rows begin in it
+abbrev pub offsetOf : List ℕ → BitmapData → ℕ → ℕ
+offsetOf s b g = u32At (b .big) s (b .offsets + 4 * g)
+
+-- 14: the first n rows of glyph g, of this width, are not all in the data
+unfoldable pub rowsShort : List ℕ → BitmapData → ℕ → ℕ → ℕ → Bool
+rowsShort s b g width n = bytesPast (length (bitsOf s b)) (offsetOf s b g) (rowStride width (b .pad)) width n
+
+-- some pixel of glyph g, of this width, passes the test; its first `columns` columns and n rows count, drawn at p
+unfoldable pub glyphDot : List ℕ → BitmapData → ℕ → ℕ → ℕ → ℕ → ℕ → ℕ → ℕ → (ℕ → Bool) → Bool
+glyphDot s b g width columns p stride scale n test =
+    someDot (bitsOf s b) (offsetOf s b g) (rowStride width (b .pad)) p stride scale columns n test
+
+-- pixel i is one of them
+abbrev pub inPicture : List ℕ → BitmapData → ℕ → ℕ → ℕ → ℕ → ℕ → ℕ → ℕ → ℕ → Bool
+inPicture s b g width columns p stride scale n i = glyphDot s b g width columns p stride scale n (λ j. eqb i j)
+
+-- 16 "a pixel to colour lies beyond the buffer", of `len` pixels
+abbrev pub pixelPast : List ℕ → BitmapData → ℕ → ℕ → ℕ → ℕ → ℕ → ℕ → ℕ → ℕ → Bool
+pixelPast s b g width columns p stride scale n len = glyphDot s b g width columns p stride scale n (λ j. leb len j)
