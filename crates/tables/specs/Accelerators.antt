@@ -9,7 +9,7 @@ use Rattle.tables.specs.Format.{formatAt, bigBit}
 use Rattle.tables.specs.Metrics.{wideAt}
 use Rattle.tables.specs.declared.AcceleratorRead.{AcceleratorRead}
 
--- the table whose bytes begin at `at`, `room` of them
+-- the table whose bytes begin at `at`, `room` of them: 6 where its "contents run past its bytes"
 unfoldable pub acceleratorsAt : List ℕ → ℕ → ℕ → AcceleratorRead
 acceleratorsAt s at room =
     let format = formatAt s at in

@@ -8,7 +8,7 @@ use Rattle.reads.specs.Num.{u32At}
 use Rattle.tables.specs.Format.{formatAt, bigBit, topBit, padCode, padOf, unitCode}
 use Rattle.tables.specs.declared.BitmapRead.{BitmapRead}
 
--- the table whose bytes begin at `at`, `room` of them
+-- the table whose bytes begin at `at`, `room` of them: 6 where its "contents run past its bytes"
 unfoldable pub bitmapsAt : List ℕ → ℕ → ℕ → BitmapRead
 bitmapsAt s at room =
     let format = formatAt s at in
@@ -16,9 +16,7 @@ bitmapsAt s at room =
     let count = u32At big s (at + 4) in
     let sizesAt = 8 + 4 * count in
     let size = u32At big s (at + (sizesAt + 4 * padCode format)) in
-    cond (ltb room 8) (BitmapRead.Refused 6)
-    (cond (ltb room (sizesAt + 16)) (BitmapRead.Refused 6)
-    (cond (ltb room (sizesAt + 16 + size)) (BitmapRead.Refused 6)
+    cond (ltb room (sizesAt + 16 + size)) (BitmapRead.Refused 6)
     (BitmapRead.Table (record {
       big = big;
       count = count;
@@ -28,4 +26,4 @@ bitmapsAt s at room =
       pad = padOf format;
       unit = unitCode format;
       top = topBit format;
-    }))))
+    }))

@@ -45,12 +45,12 @@ abbrev pub metricCount : Bool → Bool → List ℕ → ℕ → ℕ
 metricCount true big s at = u16At big s (at + 4)
 metricCount false big s at = u32At big s (at + 4)
 
--- the table whose bytes begin at `at`, `room` of them; "metrics [...] use the directory's" format
+-- the table whose bytes begin at `at`, `room` of them: 6 where its "contents run past its bytes"; "metrics [...] use the directory's"
+-- format
 unfoldable pub metricsAt : List ℕ → ℕ → ℕ → ℕ → MetricsRead
 metricsAt s format at room =
     let big = bigBit format in
     let compressed = compressedBit format in
     let count = metricCount compressed big s at in
-    cond (ltb room (metricsFrom compressed)) (MetricsRead.Refused 6)
-    (cond (ltb room (metricsFrom compressed + metricBytes compressed * count)) (MetricsRead.Refused 6)
-    (MetricsRead.Table (record { big = big; compressed = compressed; count = count; records = at + metricsFrom compressed })))
+    cond (ltb room (metricsFrom compressed + metricBytes compressed * count)) (MetricsRead.Refused 6)
+    (MetricsRead.Table (record { big = big; compressed = compressed; count = count; records = at + metricsFrom compressed }))

@@ -12,14 +12,12 @@ use Rattle.tables.specs.declared.PropertiesRead.{PropertiesRead}
 abbrev pub padded4 : ℕ → ℕ
 padded4 n = (n + 3) / 4 * 4
 
--- the table whose bytes begin at `at`, `room` of them
+-- the table whose bytes begin at `at`, `room` of them: 6 where its "contents run past its bytes"
 unfoldable pub propertiesAt : List ℕ → ℕ → ℕ → PropertiesRead
 propertiesAt s at room =
     let big = bigBit (formatAt s at) in
     let count = u32At big s (at + 4) in
     let sizeAt = padded4 (8 + 9 * count) in
     let size = u32At big s (at + sizeAt) in
-    cond (ltb room 8) (PropertiesRead.Refused 6)
-    (cond (ltb room (sizeAt + 4)) (PropertiesRead.Refused 6)
-    (cond (ltb room (sizeAt + 4 + size)) (PropertiesRead.Refused 6)
-    (PropertiesRead.Table (record { big = big; count = count; records = at + 8; strings = at + (sizeAt + 4); size = size }))))
+    cond (ltb room (sizeAt + 4 + size)) (PropertiesRead.Refused 6)
+    (PropertiesRead.Table (record { big = big; count = count; records = at + 8; strings = at + (sizeAt + 4); size = size }))
