@@ -28,5 +28,9 @@ use Rattle.promises.specs.Typed.{typed, typedLines}
 use Rattle.promises.specs.FontF.{linesF, framesF}
 
 pub dump-F : dumped (typedLines linesF) ≡ typedLines framesF
-unfolding linesF framesF typed typedLines hexBytes linesOf digitOf goodLine bytesFrom hexRead digits numAt signed less128 propertiesAt acceleratorsAt wideAt narrowAt metricsAt bitmapsAt codesOf codesAt namesAt finished tableOf entryOf entryAt entriesFrom loaded slotOf glyphOf metricsOf zeroFrom stringAt nameOf propOf some bytesPast rowsShort boundsHold placeable infoOf firstFault codeFault vetRecord vetted hexDigit field bytesAt rowsAt frame frameOf framesFrom dumped
+unfolding linesF framesF typed typedLines hexBytes linesOf digitOf goodLine bytesFrom hexRead digits numAt signed
+    less128 propertiesAt acceleratorsAt wideAt narrowAt metricsAt bitmapsAt codesOf codesAt namesAt finished tableOf
+    entryOf entryAt entriesFrom loaded slotOf glyphOf metricsOf zeroFrom stringAt nameOf propOf some bytesPast rowsShort
+    boundsHold placeable infoOf firstFault codeFault vetRecord vetted hexDigit field bytesAt rowsAt frame frameOf
+    framesFrom dumped
 dump-F = refl

@@ -33,5 +33,9 @@ use Rattle.promises.specs.Seen.{asked, seen}
 use Rattle.promises.specs.Cases.{table, Holds}
 
 pub proved-cases : Holds table
-unfolding table seen asked F linesF typed typedLines hexBytes linesOf digitOf digits numAt signed less128 propertiesAt acceleratorsAt wideAt narrowAt metricsAt bitmapsAt codesOf codesAt namesAt propsFit metricsFit bitmapsFit codesFit namesFit recordFits finished tableOf entryOf entryAt entriesFrom loaded slotOf glyphOf getGlyph metricsOf getMetrics some painted bitAt bytesPast someDot rowsShort glyphDot shownAt boundsHold placeable infoOf prepared glyphDrawn drawChar find leadOf leads longer stepAt decodeFrom decoded placed textFrom inText drawString
+unfolding table seen asked F linesF typed typedLines hexBytes linesOf digitOf digits numAt signed less128 propertiesAt
+    acceleratorsAt wideAt narrowAt metricsAt bitmapsAt codesOf codesAt namesAt propsFit metricsFit bitmapsFit codesFit
+    namesFit recordFits finished tableOf entryOf entryAt entriesFrom loaded slotOf glyphOf getGlyph metricsOf getMetrics
+    some painted bitAt bytesPast someDot rowsShort glyphDot shownAt boundsHold placeable infoOf prepared glyphDrawn
+    drawChar find leadOf leads longer stepAt decodeFrom decoded placed textFrom inText drawString
 proved-cases = (refl, (refl, (refl, (refl, (refl, (refl, (refl, (refl, (refl, (refl, tt))))))))))
