@@ -7,7 +7,7 @@ use lib.ListN.{length, take, drop}
 use lib.Dec.{leb, eqb}
 use Rattle.reads.specs.Num.{u32At}
 use Rattle.tables.specs.declared.BitmapData.{BitmapData}
-use Rattle.bitmaps.specs.Rows.{rowStride, bytesPast}
+use Rattle.bitmaps.specs.Rows.{rowStride, bitAt, bytesPast}
 use Rattle.bitmaps.specs.Dots.{someDot}
 
 -- 12 "glyph at or above the bitmap count"
@@ -30,15 +30,14 @@ offsetOf s b g = u32At (b .big) s (b .offsets + 4 * g)
 unfoldable pub rowsShort : List ℕ → BitmapData → ℕ → ℕ → ℕ → Bool
 rowsShort s b g width n = bytesPast (length (bitsOf s b)) (offsetOf s b g) (rowStride width (b .pad)) width n
 
--- some pixel of glyph g, of this width, passes the test; its first `columns` columns and n rows count, drawn at p
-unfoldable pub glyphDot : List ℕ → BitmapData → ℕ → ℕ → ℕ → ℕ → ℕ → ℕ → ℕ → (ℕ → Bool) → Bool
-glyphDot s b g width columns p stride scale n test =
-    someDot (bitsOf s b) (offsetOf s b g) (rowStride width (b .pad)) p stride scale columns n test
+-- the bit of glyph g, of this width, at row r, column c
+unfoldable pub glyphBit : List ℕ → BitmapData → ℕ → ℕ → ℕ → ℕ → Bool
+glyphBit s b g width r c = bitAt (bitsOf s b) (offsetOf s b g + r * rowStride width (b .pad)) c
 
--- pixel i is one of them
+-- pixel i is one of glyph g, drawn at p; its first `columns` columns and n rows count
 abbrev pub inPicture : List ℕ → BitmapData → ℕ → ℕ → ℕ → ℕ → ℕ → ℕ → ℕ → ℕ → Bool
-inPicture s b g width columns p stride scale n i = glyphDot s b g width columns p stride scale n (λ j. eqb i j)
+inPicture s b g width columns p stride scale n i = someDot (glyphBit s b g width) p stride scale columns n (λ j. eqb i j)
 
 -- 16 "a pixel to colour lies beyond the buffer", of `len` pixels
 abbrev pub pixelPast : List ℕ → BitmapData → ℕ → ℕ → ℕ → ℕ → ℕ → ℕ → ℕ → ℕ → Bool
-pixelPast s b g width columns p stride scale n len = glyphDot s b g width columns p stride scale n (λ j. leb len j)
+pixelPast s b g width columns p stride scale n len = someDot (glyphBit s b g width) p stride scale columns n (λ j. leb len j)

@@ -15,7 +15,7 @@ use Rattle.metrics.specs.Measure.{metricsOf, getMetrics}
 use Rattle.bitmaps.specs.Paint.{some, painted}
 use Rattle.bitmaps.specs.Rows.{bitAt, bytesPast}
 use Rattle.bitmaps.specs.Dots.{someDot}
-use Rattle.bitmaps.specs.Picture.{rowsShort, glyphDot}
+use Rattle.bitmaps.specs.Picture.{rowsShort, glyphBit}
 use Rattle.bitmaps.specs.Draw.{shownAt}
 use Rattle.place.specs.Bounds.{boundsHold}
 use Rattle.place.specs.Info.{placeable, infoOf, prepared}
@@ -36,6 +36,6 @@ pub proved-cases : Holds table
 unfolding table seen asked F linesF typed typedLines hexBytes linesOf digitOf digits numAt signed less128 propertiesAt
     acceleratorsAt wideAt narrowAt metricsAt bitmapsAt codesOf codesAt namesAt propsFit metricsFit bitmapsFit codesFit
     namesFit recordFits finished tableOf entryOf entryAt entriesFrom loaded slotOf glyphOf getGlyph metricsOf getMetrics
-    some painted bitAt bytesPast someDot rowsShort glyphDot shownAt boundsHold placeable infoOf prepared glyphDrawn
+    some painted bitAt bytesPast someDot rowsShort glyphBit shownAt boundsHold placeable infoOf prepared glyphDrawn
     drawChar find leadOf leads longer stepAt decodeFrom decoded placed textFrom inText drawString
 proved-cases = (refl, (refl, (refl, (refl, (refl, (refl, (refl, (refl, (refl, (refl, tt))))))))))
