@@ -1,4 +1,4 @@
-"""Document 01 once more, in plain Python, written from its sentences and without sight of the
+"""The rules and decisions of document 01 once more, in plain Python; it shares nothing with the
 definitions in crates/*/specs. Literal and slow on purpose: nested loops over rows, columns and
 blocks, linear searches. run.py holds the definitions to it."""
 

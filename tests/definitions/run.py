@@ -23,8 +23,8 @@ HERE = os.path.dirname(os.path.abspath(__file__))
 ROOT = os.path.dirname(os.path.dirname(HERE))
 BATCH = 110
 SLOW = ("vet", "dump")  # each goes over 65,536 codes
-DRAWS = ("draw_bitmap", "draw_glyph", "draw_char", "draw_string", "unpack_glyph")
 NO_FONT = ("utf8_step", "hex_read", "dump")
+OLD, COLOUR = 7, 5  # what every pixel has before, and what is drawn
 
 
 # ---- the model's answer
@@ -49,7 +49,7 @@ def text_of(c):
 
 def ask(call, font, rec, c):
     """(values, new buffer or None) of a call that is not refused"""
-    old = [0 if call == "unpack_glyph" else 7] * c.get("len", 0)
+    old = [OLD] * c.get("len", 0)
     place = [old] + [c[k] for k in ("start", "stride", "scale") if k in c]
     if call == "load":
         return model.flat_record(model.load(font)), None
@@ -70,14 +70,14 @@ def ask(call, font, rec, c):
     if call == "prep_char":
         return model.flat_info(model.prep_char(font, rec, c["code"])), None
     if call == "draw_bitmap":
-        return model.draw_bitmap(font, rec, c["g"], c["width"], c["height"], *place, 1)
+        return model.draw_bitmap(font, rec, c["g"], c["width"], c["height"], *place, COLOUR)
     if call == "draw_glyph":
-        return model.draw_glyph(font, rec, c["info"], *place, 1)
+        return model.draw_glyph(font, rec, c["info"], *place, COLOUR)
     if call == "draw_char":
-        (info, drawn, dropped), new = model.draw_char(font, rec, c["code"], *place, 1)
+        (info, drawn, dropped), new = model.draw_char(font, rec, c["code"], *place, COLOUR)
         return model.flat_info(info) + [drawn, dropped], new
     if call == "draw_string":
-        return model.draw_string(font, rec, text_of(c), old, c["start"], c["wrap"], c["stride"], c["scale"], 1)
+        return model.draw_string(font, rec, text_of(c), old, c["start"], c["wrap"], c["stride"], c["scale"], COLOUR)
     if call == "unpack_glyph":
         rows, new = model.unpack_glyph(font, rec, c["info"], *place)
         return [rows], new
@@ -95,8 +95,7 @@ def answer(font, rec, c):
         values, new = ask(c["call"], font, rec, c)
     except model.Refused as e:
         return e.number, e.place, [], []
-    old = 0 if c["call"] == "unpack_glyph" else 7
-    pixels = [n for i, x in enumerate(new or []) if x != old for n in (i, x)]
+    pixels = [n for i, x in enumerate(new or []) if x != OLD for n in (i, x)]
     return 0, 0, [int(v) for v in values], pixels
 
 
@@ -235,28 +234,29 @@ onFont (Loaded.Refused r) f = seen (said 99 0 []) []
 bitmap : List ℕ → Record → ℕ → ℕ → ℕ → ℕ → ℕ → ℕ → ℕ → Seen
 bitmap s rec g w h len start stride scale =
     let r = drawBitmap s rec g w h len start stride scale in
-    seen (saidDrawn r) (newFrom 7 0 (shownLeaves s (rec .bitmaps) g w start stride scale 1 r (replicate len 7)))
+    seen (saidDrawn r) (newFrom OLD 0 (shownLeaves s (rec .bitmaps) g w start stride scale COLOUR r (replicate len OLD)))
 
 glyph : List ℕ → Record → GlyphInfo → ℕ → ℕ → ℕ → ℕ → Seen
 glyph s rec i len start stride scale =
     let r = drawGlyph s rec i len start stride scale in
-    seen (saidDrawn r) (newFrom 7 0 (glyphLeaves s rec i start stride scale 1 r (replicate len 7)))
+    seen (saidDrawn r) (newFrom OLD 0 (glyphLeaves s rec i start stride scale COLOUR r (replicate len OLD)))
 
 char : List ℕ → Record → ℕ → ℕ → ℕ → ℕ → ℕ → Seen
 char s rec code len start stride scale =
     let r = drawChar s rec code len start stride scale in
-    seen (saidChar r) (newFrom 7 0 (charLeaves s rec start stride scale 1 r (replicate len 7)))
+    seen (saidChar r) (newFrom OLD 0 (charLeaves s rec start stride scale COLOUR r (replicate len OLD)))
 
 string : List ℕ → Record → List ℕ → ℕ → Layout → Seen
 string s rec t len lay =
     let r = drawString s rec t len lay in
-    seen (saidText r) (newFrom 7 0 (stringLeaves s rec t lay 1 r (replicate len 7)))
+    seen (saidText r) (newFrom OLD 0 (stringLeaves s rec t lay COLOUR r (replicate len OLD)))
 
 unpack : List ℕ → Record → GlyphInfo → ℕ → ℕ → ℕ → Seen
 unpack s rec i len start stride =
     let r = unpackGlyph s rec i len start stride in
-    seen (saidUnpacked r) (newFrom 0 0 (unpackLeaves s rec i start stride r (replicate len 0)))
+    seen (saidUnpacked r) (newFrom OLD 0 (unpackLeaves s rec i start stride r (replicate len OLD)))
 """
+SEEN = SEEN.replace("OLD", str(OLD)).replace("COLOUR", str(COLOUR))
 OWN = "seen said times then newFrom onFont bitmap glyph char string unpack".split()
 
 
@@ -268,12 +268,9 @@ def openings():
         for file in sorted(os.listdir(folder)):
             with open(os.path.join(folder, file), encoding="utf-8") as f:
                 found = re.findall(r"^unfoldable pub (\S+) :", f.read(), re.M)
-            # a name that two crates have is told apart by its crate's
-            items = [(n, f"{n}-of-{crate}" if n == "table" else n) for n in found]
-            if items:
-                listed = ", ".join(n if n == m else f"{n} as {m}" for n, m in items)
-                uses.append(f"use Rattle.{crate}.specs.{file[:-5]}.{{{listed}}}")
-                names += [m for _, m in items]
+            if found:
+                uses.append(f"use Rattle.{crate}.specs.{file[:-5]}.{{{', '.join(found)}}}")
+                names += found
     return uses, names
 
 
@@ -340,7 +337,6 @@ def main():
             lines.append(f"computed{i}: {' '.join(crates())}\n")
         with open(os.path.join(folder, "crates.txt"), "w", encoding="utf-8") as f:
             f.writelines(lines)
-        subprocess.run(["git", "init", "-q", folder], check=True)
         run = subprocess.run(["rt", "check"], cwd=folder, capture_output=True, text=True,
                              env=dict(os.environ, RT_CUT="0"))
     if run.returncode == 0:

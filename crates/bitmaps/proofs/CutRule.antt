@@ -3,12 +3,16 @@ use Prim.Native.Nat.{ℕ, _-_, _*_, _/_, _≤_}
 use mathlib.Core.Path.{_≡_}
 use native.Mathlib.Omega.{arith}
 use native.Mathlib.Nat.{div-mul-le-self, mul-le-mul-right, le-trans, zero-div, min-eq-left}
-use Rattle.bitmaps.specs.Rows.{linesFrom, drawnRows}
+use Rattle.bitmaps.specs.Cut.{linesFrom, drawnRows}
 
 module _ (len p stride scale height : ℕ) where
   -- no row is made up
   pub drawn-within : drawnRows len p stride scale height ≤ height
   drawn-within = omega arith
+
+  -- no row is lost where whole groups of `scale` lines hold them all
+  pub drawn-all : height ≤ linesFrom len p stride / scale * scale → drawnRows len p stride scale height ≡ height
+  drawn-all h = min-eq-left h
 
   -- a line that the buffer has only in part does not count
   pub drawn-lines : drawnRows len p stride scale height * stride ≤ len - p
@@ -16,10 +20,6 @@ module _ (len p stride scale height : ℕ) where
       let lines : linesFrom len p stride / scale * scale ≤ linesFrom len p stride = div-mul-le-self _ _ in
       let drawn : drawnRows len p stride scale height ≤ linesFrom len p stride = omega arith in
       le-trans (mul-le-mul-right stride drawn) (div-mul-le-self _ _)
-
-  -- no row is lost where whole groups of `scale` lines hold them all
-  pub drawn-all : height ≤ linesFrom len p stride / scale * scale → drawnRows len p stride scale height ≡ height
-  drawn-all h = min-eq-left h
 
   -- nothing is drawn from the buffer's end on
   pub drawn-none : len ≤ p → drawnRows len p stride scale height ≡ 0

@@ -10,7 +10,7 @@ use Rattle.tables.specs.declared.BitmapData.{BitmapData}
 use Rattle.tables.specs.declared.Record.{Record}
 use Rattle.bitmaps.specs.Paint.{painted}
 use Rattle.bitmaps.specs.Limits.{okPlace, okPair}
-use Rattle.bitmaps.specs.Rows.{drawnRows}
+use Rattle.bitmaps.specs.Cut.{drawnRows}
 use Rattle.bitmaps.specs.Picture.{noBitmap, unreadable, rowsShort, inPicture, pixelPast}
 use Rattle.bitmaps.specs.declared.Rows.{Rows}
 use Rattle.bitmaps.specs.declared.Drawn.{Drawn}

@@ -1,5 +1,6 @@
 pub mod Paint
 pub mod Limits
+pub mod Cut
 pub mod Rows
 pub mod Dots
 pub mod Picture

@@ -1,5 +1,6 @@
--- What colouring leaves in a buffer: "each defined pixel has the colour, every other pixel keeps its value". Which pixels are
--- defined is a rule on places, built of searches over bounded numbers, as the sentences of document 01 are.
+-- What colouring leaves in a buffer: each pixel that a rule has gets the colour, and every other pixel keeps its value. A rule says
+-- of a place whether it has it, by searches over bounded numbers, as document 01's "A set bit [...] at row r, column c < width
+-- colours [...] for a, b below scale".
 use Prim.Native.Nat.{ℕ, zero, suc}
 use mathlib.Core.Bool.{Bool, false, cond, _||_}
 use mathlib.Core.List.{List, [], _∷_}

@@ -23,16 +23,20 @@ abbrev pub bitsOf : List ℕ → BitmapData → List ℕ
 bitsOf s b = take (b .size) (drop (b .bits) s)
 
 -- where glyph g's rows begin in it
-abbrev pub offsetOf : List ℕ → BitmapData → ℕ → ℕ
+unfoldable pub offsetOf : List ℕ → BitmapData → ℕ → ℕ
 offsetOf s b g = u32At (b .big) s (b .offsets + 4 * g)
 
--- 14: the first n rows of glyph g, of this width, are not all in the data
-unfoldable pub rowsShort : List ℕ → BitmapData → ℕ → ℕ → ℕ → Bool
-rowsShort s b g width n = bytesPast (length (bitsOf s b)) (offsetOf s b g) (rowStride width (b .pad)) width n
+-- where row r of glyph g, of this width, begins
+abbrev pub rowOf : List ℕ → BitmapData → ℕ → ℕ → ℕ → ℕ
+rowOf s b g width r = offsetOf s b g + r * rowStride width (b .pad)
 
--- the bit of glyph g, of this width, at row r, column c
+-- 14: the first n rows of glyph g are not all in the data
+unfoldable pub rowsShort : List ℕ → BitmapData → ℕ → ℕ → ℕ → Bool
+rowsShort s b g width n = bytesPast (length (bitsOf s b)) (rowOf s b g width) width n
+
+-- the bit of glyph g at row r, column c
 unfoldable pub glyphBit : List ℕ → BitmapData → ℕ → ℕ → ℕ → ℕ → Bool
-glyphBit s b g width r c = bitAt (bitsOf s b) (offsetOf s b g + r * rowStride width (b .pad)) c
+glyphBit s b g width r c = bitAt (bitsOf s b) (rowOf s b g width r) c
 
 -- pixel i is one of glyph g, drawn at p; its first `columns` columns and n rows count
 abbrev pub inPicture : List ℕ → BitmapData → ℕ → ℕ → ℕ → ℕ → ℕ → ℕ → ℕ → ℕ → Bool

@@ -33,7 +33,7 @@ digitOf c =
     cond (between 48 57 c) (c - 48)
     (cond (between 65 70 c) (c - 55) 16)
 
-abbrev pub allDigits : List ℕ → Bool
+unfoldable pub allDigits : List ℕ → Bool
 allDigits [] = true
 allDigits (c ∷ cs) = ltb (digitOf c) 16 && allDigits cs
 
@@ -61,12 +61,12 @@ unfoldable pub hexRead : List ℕ → HexRead
 hexRead text = let l = linesOf text in bytesFrom (l .ended) (l .rest) 1 0
 
 -- the bytes of a line's digits
-abbrev pub pairs : List ℕ → List ℕ
+unfoldable pub pairs : List ℕ → List ℕ
 pairs [] = []
 pairs (a ∷ []) = []
 pairs (a ∷ b ∷ cs) = (digitOf a * 16 + digitOf b) ∷ pairs cs
 
-abbrev pub allPairs : List (List ℕ) → List ℕ
+unfoldable pub allPairs : List (List ℕ) → List ℕ
 allPairs [] = []
 allPairs (l ∷ ls) = pairs l ++ allPairs ls
 

@@ -1,7 +1,7 @@
 -- Loading a file of bytes: the directory, its entries in order, refusals 1 to 8. From document 01: "Directory numbers and every
 -- format word are little-endian. An entry is type, format, size, offset"; "Order in loading: 1 to 4, then entries in order
 -- (5; within a table 6 for its header, 7, 6 for the rest), then 8"; the place is "for 5, 6 and 7 in loading, the entry's number from 0".
-use Prim.Native.Nat.{ℕ, zero, suc, _+_, _-_, _*_, min}
+use Prim.Native.Nat.{ℕ, zero, suc, _+_, _*_, min}
 use mathlib.Core.Bool.{true, false, not, cond, _||_}
 use mathlib.Core.List.{List}
 use lib.ListN.{length}
@@ -20,15 +20,15 @@ use Rattle.load.specs.declared.Gathered.{Gathered}
 use Rattle.load.specs.declared.Entered.{Entered}
 use Rattle.load.specs.declared.Loaded.{Loaded}
 
--- a table of this type, with the directory's format, whose bytes begin at `at`, `room` of them; an unknown type gives nothing
+-- a table of this type, with the directory's format, whose bytes run from `at` to `end`; an unknown type gives nothing
 unfoldable pub tableOf : List ℕ → Gathered → ℕ → ℕ → ℕ → ℕ → Entered
-tableOf s g kind format at room =
-    cond (eqb kind 1) (gotProps g (propertiesAt s at room))
-    (cond (eqb kind 2 || eqb kind 256) (gotAccel g (acceleratorsAt s at room))
-    (cond (eqb kind 4) (gotMetrics g (metricsAt s format at room))
-    (cond (eqb kind 8) (gotBitmaps g (bitmapsAt s at room))
-    (cond (eqb kind 32) (gotCodes g (codesAt s at room))
-    (cond (eqb kind 128) (gotNames g (namesAt s at room))
+tableOf s g kind format at end =
+    cond (eqb kind 1) (gotProps g (propertiesAt s at end))
+    (cond (eqb kind 2 || eqb kind 256) (gotAccel g (acceleratorsAt s at end))
+    (cond (eqb kind 4) (gotMetrics g (metricsAt s format at end))
+    (cond (eqb kind 8) (gotBitmaps g (bitmapsAt s at end))
+    (cond (eqb kind 32) (gotCodes g (codesAt s at end))
+    (cond (eqb kind 128) (gotNames g (namesAt s at end))
     (Entered.Next g))))))
 
 -- an entry: 5, "an entry's offset exceeds the file length (unknown types too)"; else "the table's bytes run from offset for size
@@ -36,7 +36,7 @@ tableOf s g kind format at room =
 unfoldable pub entryOf : List ℕ → Gathered → ℕ → ℕ → ℕ → ℕ → Entered
 entryOf s g kind format size offset =
     cond (ltb (length s) offset) (Entered.Refused 5)
-    (tableOf s g kind format offset (min size (length s - offset)))
+    (tableOf s g kind format offset (min (offset + size) (length s)))
 
 -- entry number k
 unfoldable pub entryAt : List ℕ → ℕ → Gathered → Entered

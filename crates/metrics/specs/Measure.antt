@@ -16,15 +16,15 @@ use Rattle.metrics.specs.declared.Measured.{Measured}
 use Rattle.metrics.specs.declared.Accelerated.{Accelerated}
 
 -- a record of either form
-abbrev pub unpackedAt : Bool → Bool → List ℕ → ℕ → MetricsUnpacked
-unpackedAt true big s at = narrowAt s at
-unpackedAt false big s at = wideAt big s at
+abbrev pub measuredAt : Bool → Bool → List ℕ → ℕ → MetricsUnpacked
+measuredAt true big s at = narrowAt s at
+measuredAt false big s at = wideAt big s at
 
 -- glyph g's metrics, or 10
 unfoldable pub metricsOf : List ℕ → MetricsData → ℕ → Measured
 metricsOf s m g =
     cond (leb (m .count) g) (Measured.Refused (refusal 10 0))
-    (Measured.Metrics (unpackedAt (m .compressed) (m .big) s (m .records + metricBytes (m .compressed) * g)))
+    (Measured.Metrics (measuredAt (m .compressed) (m .big) s (m .records + metricBytes (m .compressed) * g)))
 
 -- `get_metrics`: 6, 10
 unfoldable pub getMetrics : List ℕ → Record → ℕ → Measured

@@ -14,7 +14,7 @@ pub struct GlyphInfo {
     pub pad_left: usize,
 }
 
-// The largest glyph's box, in 000's order.
+// The maximum bounds' height and width, in 000's order.
 #[repr(C)]
 pub struct Dimensions {
     pub height: usize,

@@ -12,13 +12,13 @@ abbrev pub byteAt : List ℕ → ℕ → ℕ
 byteAt s at = getD s at 0
 
 -- which of `w` bytes has `k` of them above it in weight: with the most significant byte first the k-th, else the k-th from the end
-abbrev pub place : Bool → ℕ → ℕ → ℕ
-place true w k = k
-place false w k = w - 1 - k
+abbrev pub digitIndex : Bool → ℕ → ℕ → ℕ
+digitIndex true w k = k
+digitIndex false w k = w - 1 - k
 
 -- the byte of the `w` at `at` that has `k` of them above it in weight
 abbrev pub digitAt : Bool → ℕ → List ℕ → ℕ → ℕ → ℕ
-digitAt big w s at k = byteAt s (at + place big w k)
+digitAt big w s at k = byteAt s (at + digitIndex big w k)
 
 -- the number whose digits to the base 256 are `d 0`, .., `d (i - 1)`, the most significant first
 unfoldable pub digits : (ℕ → ℕ) → ℕ → ℕ

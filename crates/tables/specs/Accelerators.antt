@@ -7,15 +7,15 @@ use lib.Dec.{ltb}
 use Rattle.reads.specs.Num.{byteAt, i32At}
 use Rattle.tables.specs.Format.{formatAt, bigBit}
 use Rattle.tables.specs.Metrics.{wideAt}
+use Rattle.tables.specs.declared.AcceleratorUnpacked.{AcceleratorUnpacked}
 use Rattle.tables.specs.declared.AcceleratorRead.{AcceleratorRead}
 
--- the table whose bytes begin at `at`, `room` of them: 6 where its "contents run past its bytes"
-unfoldable pub acceleratorsAt : List ℕ → ℕ → ℕ → AcceleratorRead
-acceleratorsAt s at room =
+-- the table that begins at `at`, as its numbers say
+unfoldable pub acceleratorsTable : List ℕ → ℕ → AcceleratorUnpacked
+acceleratorsTable s at =
     let format = formatAt s at in
     let big = bigBit format in
-    cond (ltb room 48) (AcceleratorRead.Refused 6)
-    (AcceleratorRead.Table (record {
+    record {
       format = format;
       noOverlap = byteAt s (at + 4);
       constantMetrics = byteAt s (at + 5);
@@ -30,4 +30,8 @@ acceleratorsAt s at room =
       maxOverlap = i32At big s (at + 20);
       minbounds = wideAt big s (at + 24);
       maxbounds = wideAt big s (at + 36);
-    }))
+    }
+
+-- 6 where "a known table's contents run past its bytes", which end at `end`
+unfoldable pub acceleratorsAt : List ℕ → ℕ → ℕ → AcceleratorRead
+acceleratorsAt s at end = cond (ltb end (at + 48)) (AcceleratorRead.Refused 6) (AcceleratorRead.Table (acceleratorsTable s at))

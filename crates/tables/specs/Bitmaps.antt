@@ -6,24 +6,33 @@ use mathlib.Core.List.{List}
 use lib.Dec.{ltb}
 use Rattle.reads.specs.Num.{u32At}
 use Rattle.tables.specs.Format.{formatAt, bigBit, topBit, padCode, padOf, unitCode}
+use Rattle.tables.specs.declared.BitmapData.{BitmapData}
 use Rattle.tables.specs.declared.BitmapRead.{BitmapRead}
 
--- the table whose bytes begin at `at`, `room` of them: 6 where its "contents run past its bytes"
-unfoldable pub bitmapsAt : List ℕ → ℕ → ℕ → BitmapRead
-bitmapsAt s at room =
+-- the table that begins at `at`, as its numbers say
+unfoldable pub bitmapsTable : List ℕ → ℕ → BitmapData
+bitmapsTable s at =
     let format = formatAt s at in
     let big = bigBit format in
     let count = u32At big s (at + 4) in
-    let sizesAt = 8 + 4 * count in
-    let size = u32At big s (at + (sizesAt + 4 * padCode format)) in
-    cond (ltb room (sizesAt + 16 + size)) (BitmapRead.Refused 6)
-    (BitmapRead.Table (record {
+    let sizesAt = at + (8 + 4 * count) in
+    record {
       big = big;
       count = count;
       offsets = at + 8;
-      bits = at + (sizesAt + 16);
-      size = size;
+      bits = sizesAt + 16;
+      size = u32At big s (sizesAt + 4 * padCode format);
       pad = padOf format;
       unit = unitCode format;
       top = topBit format;
-    }))
+    }
+
+-- where its contents end
+abbrev pub bitmapsEnd : BitmapData → ℕ
+bitmapsEnd b = b .bits + b .size
+
+-- 6 where "a known table's contents run past its bytes", which end at `end`
+unfoldable pub bitmapsAt : List ℕ → ℕ → ℕ → BitmapRead
+bitmapsAt s at end =
+    let b = bitmapsTable s at in
+    cond (ltb end (bitmapsEnd b)) (BitmapRead.Refused 6) (BitmapRead.Table b)

@@ -7,6 +7,7 @@ use lib.Dec.{ltb}
 use Rattle.reads.specs.Num.{byteAt, u16At, u32At, i16At, less128}
 use Rattle.tables.specs.Format.{bigBit, compressedBit}
 use Rattle.tables.specs.declared.MetricsUnpacked.{MetricsUnpacked}
+use Rattle.tables.specs.declared.MetricsData.{MetricsData}
 use Rattle.tables.specs.declared.MetricsRead.{MetricsRead}
 
 -- a record of 12 bytes
@@ -45,12 +46,19 @@ abbrev pub metricCount : Bool → Bool → List ℕ → ℕ → ℕ
 metricCount true big s at = u16At big s (at + 4)
 metricCount false big s at = u32At big s (at + 4)
 
--- the table whose bytes begin at `at`, `room` of them: 6 where its "contents run past its bytes"; "metrics [...] use the directory's"
--- format
-unfoldable pub metricsAt : List ℕ → ℕ → ℕ → ℕ → MetricsRead
-metricsAt s format at room =
+-- the table that begins at `at`, as its numbers say; "metrics [...] use the directory's" format
+unfoldable pub metricsTable : List ℕ → ℕ → ℕ → MetricsData
+metricsTable s format at =
     let big = bigBit format in
     let compressed = compressedBit format in
-    let count = metricCount compressed big s at in
-    cond (ltb room (metricsFrom compressed + metricBytes compressed * count)) (MetricsRead.Refused 6)
-    (MetricsRead.Table (record { big = big; compressed = compressed; count = count; records = at + metricsFrom compressed }))
+    record { big = big; compressed = compressed; count = metricCount compressed big s at; records = at + metricsFrom compressed }
+
+-- where its contents end
+abbrev pub metricsEnd : MetricsData → ℕ
+metricsEnd m = m .records + metricBytes (m .compressed) * m .count
+
+-- 6 where "a known table's contents run past its bytes", which end at `end`
+unfoldable pub metricsAt : List ℕ → ℕ → ℕ → ℕ → MetricsRead
+metricsAt s format at end =
+    let m = metricsTable s format at in
+    cond (ltb end (metricsEnd m)) (MetricsRead.Refused 6) (MetricsRead.Table m)

@@ -6,18 +6,27 @@ use mathlib.Core.List.{List}
 use lib.Dec.{ltb}
 use Rattle.reads.specs.Num.{u32At}
 use Rattle.tables.specs.Format.{formatAt, bigBit}
+use Rattle.tables.specs.declared.PropertiesData.{PropertiesData}
 use Rattle.tables.specs.declared.PropertiesRead.{PropertiesRead}
 
 -- "padding to a multiple of 4"
 abbrev pub padded4 : ℕ → ℕ
 padded4 n = (n + 3) / 4 * 4
 
--- the table whose bytes begin at `at`, `room` of them: 6 where its "contents run past its bytes"
-unfoldable pub propertiesAt : List ℕ → ℕ → ℕ → PropertiesRead
-propertiesAt s at room =
+-- the table that begins at `at`, as its numbers say
+unfoldable pub propertiesTable : List ℕ → ℕ → PropertiesData
+propertiesTable s at =
     let big = bigBit (formatAt s at) in
     let count = u32At big s (at + 4) in
-    let sizeAt = padded4 (8 + 9 * count) in
-    let size = u32At big s (at + sizeAt) in
-    cond (ltb room (sizeAt + 4 + size)) (PropertiesRead.Refused 6)
-    (PropertiesRead.Table (record { big = big; count = count; records = at + 8; strings = at + (sizeAt + 4); size = size }))
+    let sizeAt = at + padded4 (8 + 9 * count) in
+    record { big = big; count = count; records = at + 8; strings = sizeAt + 4; size = u32At big s sizeAt }
+
+-- where its contents end
+abbrev pub propertiesEnd : PropertiesData → ℕ
+propertiesEnd p = p .strings + p .size
+
+-- 6 where "a known table's contents run past its bytes", which end at `end`
+unfoldable pub propertiesAt : List ℕ → ℕ → ℕ → PropertiesRead
+propertiesAt s at end =
+    let p = propertiesTable s at in
+    cond (ltb end (propertiesEnd p)) (PropertiesRead.Refused 6) (PropertiesRead.Table p)

@@ -11,24 +11,26 @@ use Rattle.tables.specs.Fits.{recordFits}
 use Rattle.tables.specs.declared.Record.{Record}
 use Rattle.bitmaps.specs.Paint.{painted}
 use Rattle.bitmaps.specs.Limits.{okPlace}
+use Rattle.bitmaps.specs.declared.Drawn.{Drawn}
 use Rattle.place.specs.Bounds.{boundsHold, boundsOf}
 use Rattle.utf8.specs.Decode.{Char, Decoded, chars, refused, decoded}
-use Rattle.text.specs.Walk.{origin, lineHeight, placed, advanced, penAfter, inPlaced}
+use Rattle.text.specs.Walk.{origin, lineHeight, placed, placedDrawn, penAfter, inPlaced}
 use Rattle.text.specs.declared.Layout.{Layout}
 use Rattle.text.specs.declared.Pen.{Pen}
-use Rattle.text.specs.declared.Advanced.{Advanced}
 use Rattle.text.specs.declared.TextDrawn.{TextDrawn}
 
-abbrev pub afterChar : Advanced → ℕ → (Pen → ℕ → TextDrawn) → TextDrawn
-afterChar (Advanced.Next pen dropped) byte rest = rest pen dropped
-afterChar (Advanced.Refused n) byte rest = TextDrawn.Refused (refusal n byte)
+-- go on with the rows that a character dropped, or refuse at the byte where it starts
+abbrev pub afterChar : Drawn → ℕ → (ℕ → TextDrawn) → TextDrawn
+afterChar (Drawn.Rows r) byte rest = rest (r .dropped)
+afterChar (Drawn.Refused r) byte rest = TextDrawn.Refused (refusal (r .number) byte)
 
 -- the characters that are left, into `len` pixels, with the pen here and so many rows dropped before
 unfoldable pub textFrom : List ℕ → Record → Layout → ℕ → List Char → Pen → ℕ → TextDrawn
 textFrom s rec lay len [] pen dropped = TextDrawn.Done (record { height = pen .y + lineHeight rec (lay .scale); dropped = dropped })
 textFrom s rec lay len (c ∷ cs) pen dropped =
-    afterChar (advanced s rec lay len (placed s rec lay (c .code) pen)) (c .byte)
-    (λ next more. textFrom s rec lay len cs next (dropped + more))
+    let p = placed s rec lay (c .code) pen in
+    afterChar (placedDrawn s rec lay len p) (c .byte)
+    (λ more. textFrom s rec lay len cs (penAfter lay p pen) (dropped + more))
 
 -- pixel k is one that these characters colour
 unfoldable pub inText : List ℕ → Record → Layout → ℕ → List Char → Pen → ℕ → Bool

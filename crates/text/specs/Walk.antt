@@ -6,20 +6,20 @@ use mathlib.Core.Bool.{Bool, false, cond}
 use mathlib.Core.List.{List}
 use lib.Dec.{leb, eqb}
 use lib.IntN.{natAbs}
+use Rattle.reads.specs.Said.{refusal}
 use Rattle.tables.specs.declared.Record.{Record}
 use Rattle.lookup.specs.Lookup.{glyphOf}
 use Rattle.lookup.specs.declared.Found.{Found}
 use Rattle.bitmaps.specs.declared.Drawn.{Drawn}
 use Rattle.place.specs.Bounds.{heightOf, boundsOf}
 use Rattle.place.specs.Info.{infoOf}
-use Rattle.place.specs.Glyph.{glyphDrawn, inInfo}
+use Rattle.place.specs.Glyph.{nothingDrawn, glyphDrawn, inInfo}
 use Rattle.place.specs.declared.GlyphInfo.{GlyphInfo}
 use Rattle.place.specs.declared.Prepared.{Prepared}
 use Rattle.text.specs.declared.Wrap.{Wrap}
 use Rattle.text.specs.declared.Layout.{Layout}
 use Rattle.text.specs.declared.Pen.{Pen}
 use Rattle.text.specs.declared.Placed.{Placed}
-use Rattle.text.specs.declared.Advanced.{Advanced}
 
 -- "x = y = 0"
 abbrev pub origin : Pen
@@ -47,7 +47,7 @@ reaches (Wrap.At w) x = leb w x
 reaches Wrap.Never x = false
 
 -- "if x + width × scale >= wrap_at, the same as a newline first"
-abbrev pub wrapped : Record → Layout → GlyphInfo → Pen → Pen
+unfoldable pub wrapped : Record → Layout → GlyphInfo → Pen → Pen
 wrapped rec lay i pen = cond (reaches (lay .wrap) (pen .x + advanceOf lay i)) (newline (lineHeight rec (lay .scale)) pen) pen
 
 abbrev pub placeInfo : Record → Layout → Pen → Prepared → Placed
@@ -74,17 +74,13 @@ spot lay pen = lay .start + pen .y * lay .stride + pen .x
 abbrev pub drawnFrom : List ℕ → Record → Layout → ℕ → Pen → GlyphInfo → Drawn
 drawnFrom s rec lay len pen i = glyphDrawn s (rec .bitmaps) i len (spot lay pen) (lay .stride) (lay .scale)
 
-abbrev pub advance : Layout → Pen → GlyphInfo → Drawn → Advanced
-advance lay pen i (Drawn.Rows r) = Advanced.Next (moved lay i pen) (r .dropped)
-advance lay pen i (Drawn.Refused r) = Advanced.Refused (r .number)
+-- what was placed, drawn into `len` pixels
+unfoldable pub placedDrawn : List ℕ → Record → Layout → ℕ → Placed → Drawn
+placedDrawn s rec lay len (Placed.Skip pen) = nothingDrawn
+placedDrawn s rec lay len (Placed.Glyph pen i) = drawnFrom s rec lay len pen i
+placedDrawn s rec lay len (Placed.Refused n) = Drawn.Refused (refusal n 0)
 
--- the pen and the dropped rows after what was placed, into `len` pixels
-abbrev pub advanced : List ℕ → Record → Layout → ℕ → Placed → Advanced
-advanced s rec lay len (Placed.Skip pen) = Advanced.Next pen 0
-advanced s rec lay len (Placed.Glyph pen i) = advance lay pen i (drawnFrom s rec lay len pen i)
-advanced s rec lay len (Placed.Refused n) = Advanced.Refused n
-
--- the pen alone
+-- the pen after what was placed; a refused character leaves it
 abbrev pub penAfter : Layout → Placed → Pen → Pen
 penAfter lay (Placed.Skip pen) old = pen
 penAfter lay (Placed.Glyph pen i) old = moved lay i pen

@@ -30,12 +30,6 @@ pub enum Placed {
     Refused(u8),
 }
 
-// The pen after a character and the rows that its glyph lost, or the refusal's number.
-pub enum Advanced {
-    Next(Pen, usize),
-    Refused(u8),
-}
-
 // The height that a text took, in pixels, and how many rows of its glyphs were cut off.
 #[repr(C)]
 pub struct TextRows {

@@ -25,9 +25,12 @@ use Rattle.vet.specs.declared.First.{First}
 use Rattle.vet.specs.declared.Vetted.{Vetted}
 
 -- "every property's strings end (18)"
-abbrev pub propFault : PropFound → ℕ
-propFault (PropFound.Property p) = 0
-propFault (PropFound.Refused r) = r .number
+abbrev pub foundProp : PropFound → ℕ
+foundProp (PropFound.Property p) = 0
+foundProp (PropFound.Refused r) = r .number
+
+unfoldable pub propFault : List ℕ → Record → ℕ → ℕ
+propFault s rec i = foundProp (propOf s (rec .props) i)
 
 -- 17, 18
 abbrev pub nameFault : Named → ℕ
@@ -35,7 +38,7 @@ nameFault (Named.Name p) = 0
 nameFault (Named.Refused r) = r .number
 
 -- of a placed glyph: 12, "14 over all rows", 17, 18
-abbrev pub boxFault : List ℕ → Record → GlyphInfo → ℕ
+unfoldable pub boxFault : List ℕ → Record → GlyphInfo → ℕ
 boxFault s rec i =
     cond (noBitmap (rec .bitmaps) (i .glyph .0)) 12
     (cond (rowsShort s (rec .bitmaps) (i .glyph .0) (i .width) (i .height)) 14
@@ -63,7 +66,7 @@ unfoldable pub vetRecord : List ℕ → Record → Vetted
 vetRecord s rec =
     cond (unreadable (rec .bitmaps)) (Vetted.Refused (refusal 13 0))
     (cond (boundsHold (boundsOf rec))
-    (afterFirst (firstFault (λ i. propFault (propOf s (rec .props) i)) (rec .props .count) 0)
+    (afterFirst (firstFault (propFault s rec) (rec .props .count) 0)
     (afterFirst (firstFault (codeFault s rec) 65536 0)
     (Vetted.Passed rec)))
     (Vetted.Refused (refusal 11 0)))
