@@ -14,12 +14,12 @@ use Rattle.place.specs.declared.GlyphInfo.{GlyphInfo}
 use Rattle.place.specs.declared.Prepared.{Prepared}
 use Rattle.frames.specs.Hex.{hexFour, field, _␣_}
 
--- "row bytes without padding": the first `bytes` bytes of a row, from byte j on
+-- n bytes, from byte j on, of the row that begins at byte `row` of the data
 unfoldable pub rowFrom : List ℕ → ℕ → ℕ → ℕ → List ℕ
 rowFrom bits row j zero = []
 rowFrom bits row j (suc n) = rowByte bits row j ∷ rowFrom bits row (j + 1) n
 
--- n rows of a glyph from row r on
+-- n rows of a glyph from row r on: "row bytes without padding"
 unfoldable pub rowsFrom : List ℕ → BitmapData → GlyphInfo → ℕ → ℕ → List ℕ
 rowsFrom s b i r zero = []
 rowsFrom s b i r (suc n) =
