@@ -1,1 +1,3 @@
 pub mod CutRule
+pub mod Painting
+pub mod Pixels
