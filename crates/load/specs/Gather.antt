@@ -1,6 +1,8 @@
 -- What the directory has given so far, and what a table adds to it. From document 01: "A repeated type is checked each time and
 -- the last one serves; types 2 and 256 both give the accelerators. Six kinds must be present."
-use mathlib.Core.Bool.{Bool, true, false, cond, _&&_}
+use Prim.Native.Nat.{ℕ}
+use mathlib.Core.Bool.{Bool, false, cond, _&&_, _||_}
+use lib.Dec.{eqb}
 use lib.IntN.{pos}
 use Rattle.reads.specs.Said.{refusal}
 use Rattle.tables.specs.declared.PropertiesRead.{PropertiesRead}
@@ -51,67 +53,58 @@ nothing = record {
   kinds = record { props = false; accel = false; metrics = false; bitmaps = false; codes = false; names = false };
 }
 
+-- the kinds so far, and that of this type; the accelerators count as type 2
+abbrev pub marked : ℕ → Kinds → Kinds
+marked kind k = record {
+  props = eqb kind 1 || k .props;
+  accel = eqb kind 2 || k .accel;
+  metrics = eqb kind 4 || k .metrics;
+  bitmaps = eqb kind 8 || k .bitmaps;
+  codes = eqb kind 32 || k .codes;
+  names = eqb kind 128 || k .names;
+}
+
+-- these tables, of which the one of this type was just read
+abbrev pub given : ℕ → Gathered → Record → Entered
+given kind g tables = Entered.Next (record { tables = tables; kinds = marked kind (g .kinds) })
+
 -- each table that was read takes the place of an earlier one of its kind
 
 abbrev pub gotProps : Gathered → PropertiesRead → Entered
 gotProps g (PropertiesRead.Refused n) = Entered.Refused n
 gotProps g (PropertiesRead.Table t) =
     let r = g .tables in
-    let k = g .kinds in
-    Entered.Next (record {
-      tables = record { props = t; accel = r .accel; metrics = r .metrics; bitmaps = r .bitmaps; codes = r .codes; names = r .names };
-      kinds = record { props = true; accel = k .accel; metrics = k .metrics; bitmaps = k .bitmaps; codes = k .codes; names = k .names };
-    })
+    given 1 g (record { props = t; accel = r .accel; metrics = r .metrics; bitmaps = r .bitmaps; codes = r .codes; names = r .names })
 
 abbrev pub gotAccel : Gathered → AcceleratorRead → Entered
 gotAccel g (AcceleratorRead.Refused n) = Entered.Refused n
 gotAccel g (AcceleratorRead.Table t) =
     let r = g .tables in
-    let k = g .kinds in
-    Entered.Next (record {
-      tables = record { props = r .props; accel = t; metrics = r .metrics; bitmaps = r .bitmaps; codes = r .codes; names = r .names };
-      kinds = record { props = k .props; accel = true; metrics = k .metrics; bitmaps = k .bitmaps; codes = k .codes; names = k .names };
-    })
+    given 2 g (record { props = r .props; accel = t; metrics = r .metrics; bitmaps = r .bitmaps; codes = r .codes; names = r .names })
 
 abbrev pub gotMetrics : Gathered → MetricsRead → Entered
 gotMetrics g (MetricsRead.Refused n) = Entered.Refused n
 gotMetrics g (MetricsRead.Table t) =
     let r = g .tables in
-    let k = g .kinds in
-    Entered.Next (record {
-      tables = record { props = r .props; accel = r .accel; metrics = t; bitmaps = r .bitmaps; codes = r .codes; names = r .names };
-      kinds = record { props = k .props; accel = k .accel; metrics = true; bitmaps = k .bitmaps; codes = k .codes; names = k .names };
-    })
+    given 4 g (record { props = r .props; accel = r .accel; metrics = t; bitmaps = r .bitmaps; codes = r .codes; names = r .names })
 
 abbrev pub gotBitmaps : Gathered → BitmapRead → Entered
 gotBitmaps g (BitmapRead.Refused n) = Entered.Refused n
 gotBitmaps g (BitmapRead.Table t) =
     let r = g .tables in
-    let k = g .kinds in
-    Entered.Next (record {
-      tables = record { props = r .props; accel = r .accel; metrics = r .metrics; bitmaps = t; codes = r .codes; names = r .names };
-      kinds = record { props = k .props; accel = k .accel; metrics = k .metrics; bitmaps = true; codes = k .codes; names = k .names };
-    })
+    given 8 g (record { props = r .props; accel = r .accel; metrics = r .metrics; bitmaps = t; codes = r .codes; names = r .names })
 
 abbrev pub gotCodes : Gathered → EncodingRead → Entered
 gotCodes g (EncodingRead.Refused n) = Entered.Refused n
 gotCodes g (EncodingRead.Table t) =
     let r = g .tables in
-    let k = g .kinds in
-    Entered.Next (record {
-      tables = record { props = r .props; accel = r .accel; metrics = r .metrics; bitmaps = r .bitmaps; codes = t; names = r .names };
-      kinds = record { props = k .props; accel = k .accel; metrics = k .metrics; bitmaps = k .bitmaps; codes = true; names = k .names };
-    })
+    given 32 g (record { props = r .props; accel = r .accel; metrics = r .metrics; bitmaps = r .bitmaps; codes = t; names = r .names })
 
 abbrev pub gotNames : Gathered → GlyphNameRead → Entered
 gotNames g (GlyphNameRead.Refused n) = Entered.Refused n
 gotNames g (GlyphNameRead.Table t) =
     let r = g .tables in
-    let k = g .kinds in
-    Entered.Next (record {
-      tables = record { props = r .props; accel = r .accel; metrics = r .metrics; bitmaps = r .bitmaps; codes = r .codes; names = t };
-      kinds = record { props = k .props; accel = k .accel; metrics = k .metrics; bitmaps = k .bitmaps; codes = k .codes; names = true };
-    })
+    given 128 g (record { props = r .props; accel = r .accel; metrics = r .metrics; bitmaps = r .bitmaps; codes = r .codes; names = t })
 
 -- "Six kinds must be present"
 abbrev pub allSix : Kinds → Bool
