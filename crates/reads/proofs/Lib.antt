@@ -1,0 +1,4 @@
+pub mod Tests
+pub mod Digits
+pub mod Signed
+pub mod Past

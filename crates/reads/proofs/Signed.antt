@@ -1,0 +1,61 @@
+-- The laws of signed readings, over the width, and of the compressed metric byte.
+use mathlib.Core.Path.{_≡_, refl, subst, sym, ap, _∙_}
+use mathlib.Core.Bool.{Bool, true, false, cond}
+use Prim.Native.Nat.{ℕ, zero, suc, _-_, _^_, _≤_, _<_}
+use native.Mathlib.Omega.{arith}
+use lib.Dec.{ltb}
+use lib.IntN.{ℤ, pos, negsuc, _-ℤ_}
+use lib.Signed.{mag}
+use mir.Syntax.{Width, w16, w32}
+use mir.Val.{SFits, toZ, ofZ, bits, hbits, sel}
+use mir.ValLaws.{pow-bits}
+use mir.Facts.{toZ-pos, toZ-ofZ, sfits-toZ}
+use borrow.Author.Tests.{le-ltb}
+use Rattle.reads.specs.Num.{signed, less128}
+
+-- a signed number survives the way through its bits
+pub back : (w : Width) (z : ℤ) → mag z < 2 ^ hbits w → toZ w (ofZ w z) ≡ z
+back w z h = toZ-ofZ {w = w} {z = z} (record { sfits = h })
+
+-- `cond` and the machine's own choice are the same
+same-choice : (t : Bool) (x y : ℤ) → sel t x y ≡ cond t x y
+same-choice true x y = refl
+same-choice false x y = refl
+
+pub signed-16 : (n : ℕ) → toZ w16 n ≡ signed 2 n
+unfolding signed
+signed-16 n = same-choice (ltb n 32768) (pos n) (negsuc (65536 - suc n))
+
+pub signed-32 : (n : ℕ) → toZ w32 n ≡ signed 4 n
+unfolding signed
+signed-32 n = same-choice (ltb n 2147483648) (pos n) (negsuc (4294967296 - suc n))
+
+minus-one-less : (m : ℕ) → negsuc 0 -ℤ pos m ≡ negsuc m
+minus-one-less zero = refl
+minus-one-less (suc k) = ap negsuc (omega arith)
+
+-- from half on, -1 less what is missing to the largest number is the signed reading
+from-half : (w : Width) (n : ℕ) → 2 ^ hbits w ≤ n → n < 2 ^ bits w → negsuc 0 -ℤ toZ w (2 ^ bits w - 1 - n) ≡ toZ w n
+from-half w n h l =
+    ap (λ (z : ℤ). negsuc 0 -ℤ z) (toZ-pos w {n = 2 ^ bits w - 1 - n} (omega (arith, pow-bits w)))
+    ∙ minus-one-less (2 ^ bits w - 1 - n)
+    ∙ rw (le-ltb n (2 ^ hbits w) h) (ap negsuc (omega arith))
+
+module _ (w : Width) (n : ℕ) (h : 2 ^ hbits w ≤ n) (l : n < 2 ^ bits w) where
+  pub half-fits : SFits w (negsuc 0 -ℤ toZ w (2 ^ bits w - 1 - n))
+  half-fits = subst (SFits w) (sym (from-half w n h l)) (sfits-toZ (record { fits = l }))
+
+  pub half-is : toZ w (ofZ w (negsuc 0 -ℤ toZ w (2 ^ bits w - 1 - n))) ≡ toZ w n
+  half-is = toZ-ofZ half-fits ∙ from-half w n h l
+
+mag-cond : (t : Bool) (x y : ℤ) → mag x < 32768 → mag y < 32768 → mag (cond t x y) < 32768
+mag-cond true x y p q = p
+mag-cond false x y p q = q
+
+pub metric-fits : (b : ℕ) → b < 256 → SFits w16 (less128 b)
+unfolding less128
+metric-fits b h = record { sfits = mag-cond (ltb b 128) (negsuc (128 - suc b)) (pos (b - 128)) (omega arith) (omega arith) }
+
+pub metric-is : (b : ℕ) → b < 256 → toZ w16 b -ℤ pos 128 ≡ less128 b
+unfolding less128
+metric-is b h = ap (λ (z : ℤ). z -ℤ pos 128) (toZ-pos w16 {n = b} (omega arith))

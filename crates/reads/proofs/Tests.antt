@@ -1,0 +1,18 @@
+-- The laws of tests: a test by subtraction is the test of the whole sum, and what a test's answer tells.
+use mathlib.Core.Path.{_≡_, refl, sym, _∙_}
+use mathlib.Core.Bool.{Bool, true, false}
+use Prim.Native.Nat.{ℕ, _≤_}
+use lib.Dec.{leb}
+use borrow.Author.Tests.{leb-true, le-leb}
+
+-- a case on a test, with its answer
+pub split {ℓ} : {P : Type ℓ} (t : Bool) → (t ≡ true → P) → (t ≡ false → P) → P
+split true f g = f refl
+split false f g = g refl
+
+-- two tests that mean the same are equal
+pub same-leb : (a b c d : ℕ) → (a ≤ b → c ≤ d) → (c ≤ d → a ≤ b) → leb a b ≡ leb c d
+same-leb a b c d f g =
+    split (leb c d)
+    (λ t. le-leb a b (g (leb-true c d t)) ∙ sym t)
+    (λ t. split (leb a b) (λ u. u ∙ sym (le-leb c d (f (leb-true a b u)))) (λ u. u ∙ sym t))
