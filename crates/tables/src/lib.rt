@@ -1,6 +1,30 @@
 // A font's record: what loading keeps of the six tables, as numbers beside the font's own bytes.
 // The parts bear 000's names. A record is plain data that a caller may have made up, so every call
-// that takes one tests it first (specs/Fits.antt).
+// that takes one tests it first (`record_fits`).
+//
+// Each table is read by one function, from the place where it begins and the end of its bytes. A
+// place is a u32, as in the directory, so that no sum of a table's numbers leaves a usize.
+mod accelerators;
+mod bitmaps;
+mod codes;
+mod fits;
+mod format;
+mod measures;
+mod metrics;
+mod names;
+mod properties;
+
+pub use accelerators::accelerators_at;
+pub use bitmaps::bitmaps_at;
+pub use codes::codes_at;
+pub use fits::is_inside;
+pub use fits::record_fits;
+pub use measures::narrow_at;
+pub use measures::wide_at;
+pub use metrics::metric_bytes;
+pub use metrics::metrics_at;
+pub use names::names_at;
+pub use properties::properties_at;
 
 // Table 1. `count` property records of 9 bytes from `records` on; string data from `strings` on.
 #[repr(C)]

@@ -1,0 +1,45 @@
+use borrow.Author.Tests.{lt-ltb, le-ltb, le-leb, lt-leb, eq-eqb, ne-eqb}
+use Rattle.tables.specs.Fits.{bitmapsFit}
+use borrow.Author.Needs.{needs}
+use Rattle.tables.proofs.fits.bitmaps_fit.Statement.{statement}
+use Rattle.tables.proofs.fits.bitmaps_fit.Tie as tie
+use Rattle.tables.proofs.fits.bitmaps_fit.Reads as reads
+use Rattle.tables.proofs.fits.bitmaps_fit.Lts as lts
+use Rattle.tables.proofs.fits.is_inside.Reads as is-inside-reads
+use Rattle.tables.proofs.fits.pad_fits.Reads as pad-fits-reads
+
+-- src/fits.rt:45:36
+cast-is-inside : tie.Need-cast-is-inside
+cast-is-inside c = search needs
+
+-- src/fits.rt:45:31
+mul-is-inside : tie.Need-mul-is-inside
+mul-is-inside c = search needs
+
+-- src/fits.rt:45:5
+is-inside-requires : tie.Need-is-inside-requires
+is-inside-requires c κs = search needs
+
+-- src/fits.rt:45:57
+is-inside-requires-2 : tie.Need-is-inside-requires-2
+is-inside-requires-2 c κs = search needs
+
+-- src/fits.rt:45:90
+pad-fits-requires : tie.Need-pad-fits-requires
+pad-fits-requires c κs = search needs
+
+-- src/fits.rt:42:1
+returns : tie.Need-returns
+unfolding bitmapsFit
+returns c = rw (← c .before .before .is-inside .ensures, ← c .before .is-inside2 .ensures, ← c .pad-fits .ensures)
+
+pub bitmaps-fit-spec : {M : Type 1} → statement M
+bitmaps-fit-spec =
+    tie.close
+    (tie.spec
+    cast-is-inside
+    mul-is-inside
+    is-inside-requires
+    is-inside-requires-2
+    pad-fits-requires
+    returns)

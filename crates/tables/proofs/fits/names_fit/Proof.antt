@@ -1,0 +1,34 @@
+use borrow.Author.Tests.{lt-ltb, le-ltb, le-leb, lt-leb, eq-eqb, ne-eqb}
+use Rattle.tables.specs.Fits.{namesFit}
+use borrow.Author.Needs.{needs}
+use Rattle.tables.proofs.fits.names_fit.Statement.{statement}
+use Rattle.tables.proofs.fits.names_fit.Tie as tie
+use Rattle.tables.proofs.fits.names_fit.Reads as reads
+use Rattle.tables.proofs.fits.names_fit.Lts as lts
+use Rattle.tables.proofs.fits.is_inside.Reads as is-inside-reads
+
+-- src/fits.rt:59:36
+cast-is-inside : tie.Need-cast-is-inside
+cast-is-inside c = search needs
+
+-- src/fits.rt:59:31
+mul-is-inside : tie.Need-mul-is-inside
+mul-is-inside c = search needs
+
+-- src/fits.rt:59:5
+is-inside-requires : tie.Need-is-inside-requires
+is-inside-requires c κs = search needs
+
+-- src/fits.rt:59:57
+is-inside-requires-2 : tie.Need-is-inside-requires-2
+is-inside-requires-2 c κs = search needs
+
+-- src/fits.rt:56:1
+returns : tie.Need-returns
+unfolding namesFit
+returns c = rw (← c .before .is-inside .ensures, ← c .is-inside2 .ensures)
+
+pub names-fit-spec : {M : Type 1} → statement M
+names-fit-spec =
+    tie.close
+    (tie.spec cast-is-inside mul-is-inside is-inside-requires is-inside-requires-2 returns)

@@ -1,0 +1,48 @@
+use borrow.Author.Tests.{lt-ltb, le-ltb, le-leb, lt-leb, eq-eqb, ne-eqb}
+use Rattle.tables.specs.Fits.{recordFits}
+use borrow.Author.Needs.{needs}
+use Rattle.tables.proofs.fits.record_fits.Statement.{statement}
+use Rattle.tables.proofs.fits.record_fits.Tie as tie
+use Rattle.tables.proofs.fits.record_fits.Reads as reads
+use Rattle.tables.proofs.fits.record_fits.Lts as lts
+use Rattle.tables.proofs.fits.bitmaps_fit.Reads as bitmaps-fit-reads
+use Rattle.tables.proofs.fits.codes_fit.Reads as codes-fit-reads
+use Rattle.tables.proofs.fits.metrics_fit.Reads as metrics-fit-reads
+use Rattle.tables.proofs.fits.names_fit.Reads as names-fit-reads
+use Rattle.tables.proofs.fits.props_fit.Reads as props-fit-reads
+
+-- src/fits.rt:67:5
+props-fit-requires : tie.Need-props-fit-requires
+props-fit-requires c κs = search needs
+
+-- src/fits.rt:68:11
+metrics-fit-requires : tie.Need-metrics-fit-requires
+metrics-fit-requires c κs = search needs
+
+-- src/fits.rt:69:11
+bitmaps-fit-requires : tie.Need-bitmaps-fit-requires
+bitmaps-fit-requires c κs = search needs
+
+-- src/fits.rt:70:11
+codes-fit-requires : tie.Need-codes-fit-requires
+codes-fit-requires c κs = search needs
+
+-- src/fits.rt:71:11
+names-fit-requires : tie.Need-names-fit-requires
+names-fit-requires c κs = search needs
+
+-- src/fits.rt:64:1
+returns : tie.Need-returns
+unfolding recordFits
+returns c = rw (← c .before .before .before .before .props-fit .ensures, ← c .before .before .before .metrics-fit .ensures, ← c .before .before .bitmaps-fit .ensures, ← c .before .codes-fit .ensures, ← c .names-fit .ensures)
+
+pub record-fits-spec : {M : Type 1} → statement M
+record-fits-spec =
+    tie.close
+    (tie.spec
+    props-fit-requires
+    metrics-fit-requires
+    bitmaps-fit-requires
+    codes-fit-requires
+    names-fit-requires
+    returns)
