@@ -1,6 +1,28 @@
 // Loading: the directory and the tables it names, to a record or a refusal from 1 to 8.
+mod gather;
+
+use crate::gather::finish;
+use crate::gather::got_accel;
+use crate::gather::got_bitmaps;
+use crate::gather::got_codes;
+use crate::gather::got_metrics;
+use crate::gather::got_names;
+use crate::gather::got_props;
+use crate::gather::nothing_yet;
 use reads::Refusal;
+use reads::u32_at;
 use tables::Record;
+use tables::accelerators_at;
+use tables::bitmaps_at;
+use tables::codes_at;
+use tables::metrics_at;
+use tables::names_at;
+use tables::properties_at;
+ghost use mathlib.Core.Path.{_≡_};
+ghost use Prim.Native.Nat.{_+_, _*_, _≤_, _<_, min};
+ghost use lib.ListN.{length};
+ghost use Rattle.load.specs.Gather.{nothing};
+ghost use Rattle.load.specs.Load.{tableOf, entryOf, entryAt, entriesFrom, loaded};
 
 pub enum Loaded {
     Font(Record),
@@ -27,4 +49,119 @@ pub struct Gathered {
 pub enum Entered {
     Next(Gathered),
     Refused(u8),
+}
+
+fn lesser_of(a: usize, b: usize) -> usize
+    ensures { λ r. ⌜ r ≡ min a b ⌝ }
+{
+    if a <= b { a } else { b }
+}
+
+// A table of a type that the library reads, whose bytes run from `at` to `end`; any other type gives
+// nothing.
+fn table_of(s: &[u8], g: Gathered, kind: u32, format: u32, at: u32, end: usize) -> Entered
+    ensures { λ r. ⌜ r ≡ tableOf (now (s .entry)) g kind format at end ⌝ }
+{
+    if kind == 1 {
+        return got_props(g, properties_at(s, at, end));
+    }
+    if kind == 2 {
+        return got_accel(g, accelerators_at(s, at, end));
+    }
+    if kind == 256 {
+        return got_accel(g, accelerators_at(s, at, end));
+    }
+    if kind == 4 {
+        return got_metrics(g, metrics_at(s, format, at, end));
+    }
+    if kind == 8 {
+        return got_bitmaps(g, bitmaps_at(s, at, end));
+    }
+    if kind == 32 {
+        return got_codes(g, codes_at(s, at, end));
+    }
+    if kind == 128 {
+        return got_names(g, names_at(s, at, end));
+    }
+    Entered::Next(g)
+}
+
+// An entry's numbers: 5 for an offset past the file; else its table, cut at the file's end.
+fn entry_of(s: &[u8], g: Gathered, kind: u32, format: u32, size: u32, offset: u32) -> Entered
+    ensures { λ r. ⌜ r ≡ entryOf (now (s .entry)) g kind format size offset ⌝ }
+{
+    if s.len() < offset as usize {
+        return Entered::Refused(5);
+    }
+    let end = lesser_of(offset as usize + size as usize, s.len());
+    table_of(s, g, kind, format, offset, end)
+}
+
+// What entry number `k` makes of what the directory has given before it.
+fn entry_at(s: &[u8], k: usize, g: Gathered) -> Entered
+    requires { ⌜ k < 64 ⌝ }
+    ensures { λ r. ⌜ r ≡ entryAt (now (s .entry)) k g ⌝ }
+{
+    let at = 8 + 16 * k;
+    let kind = u32_at(s, at, 0, false);
+    let format = u32_at(s, at, 4, false);
+    let size = u32_at(s, at, 8, false);
+    let offset = u32_at(s, at, 12, false);
+    entry_of(s, g, kind, format, size, offset)
+}
+
+// All entries, in order: the first refusal with its entry's number, or what they give together.
+fn all_entries(s: &[u8], count: usize) -> Loaded
+    requires { ⌜ count ≤ 64 ⌝ }
+    ensures { λ r. ⌜ r ≡ entriesFrom (now (s .entry)) count 0 nothing ⌝ }
+{
+    let mut g = nothing_yet();
+    let mut k: usize = 0;
+    while k < count {
+        match entry_at(s, k, g) {
+            Entered::Next(h) => {
+                g = h;
+            }
+            Entered::Refused(number) => {
+                return Loaded::Refused(Refusal { number, place: k });
+            }
+        }
+        k += 1;
+    }
+    finish(g)
+}
+
+// The record of a font file, or the first trouble in this order: 1 under 8 bytes, 2 a wrong first
+// word, 3 over 64 directory entries, 4 a directory that runs past the file; then, entry by entry and
+// with the entry's number as the place, 5 an offset past the file, 6 a table that runs past its
+// bytes, 7 a code minimum above its maximum; then 8 a table missing. The place is 0 but for 5, 6, 7.
+pub fn load_pcf(s: &[u8]) -> Loaded
+    ensures { λ r. ⌜ r ≡ loaded (now (s .entry)) ⌝ }
+{
+    if s.len() < 8 {
+        return Loaded::Refused(Refusal {
+            number: 1,
+            place: 0,
+        });
+    }
+    if u32_at(s, 0, 0, true) != 0x0166_6370 {
+        return Loaded::Refused(Refusal {
+            number: 2,
+            place: 0,
+        });
+    }
+    let count = u32_at(s, 0, 4, false) as usize;
+    if 64 < count {
+        return Loaded::Refused(Refusal {
+            number: 3,
+            place: 0,
+        });
+    }
+    if s.len() < 8 + 16 * count {
+        return Loaded::Refused(Refusal {
+            number: 4,
+            place: 0,
+        });
+    }
+    all_entries(s, count)
 }

@@ -1,0 +1,24 @@
+use borrow.Author.Needs.{needs}
+use Rattle.load.proofs.gather.got_names.Statement.{statement}
+use Rattle.load.proofs.gather.got_names.Tie as tie
+use Rattle.load.proofs.gather.got_names.Reads as reads
+use Rattle.load.proofs.gather.got_names.Lts as lts
+
+-- src/gather.rt:214:30
+enum-known-got : tie.Need-enum-known-got
+enum-known-got c = search needs
+
+-- src/gather.rt:224:32
+enum-known-got-2 : tie.Need-enum-known-got-2
+enum-known-got-2 c = search needs
+
+-- src/gather.rt:210:1
+returns : tie.Need-returns
+returns c = rw (c .before .before .before .got .given .1)
+
+-- src/gather.rt:210:1
+returns-2 : tie.Need-returns-2
+returns-2 c = rw (c .before .got2 .given .1)
+
+pub got-names-spec : {M : Type 1} → statement M
+got-names-spec = tie.close (tie.spec enum-known-got enum-known-got-2 returns returns-2)

@@ -1,0 +1,22 @@
+use borrow.Author.Tests.{lt-ltb, le-ltb, le-leb, lt-leb, eq-eqb, ne-eqb}
+use borrow.Author.Needs.{needs}
+use Rattle.load.proofs.gather.no_accelerators.Statement.{statement}
+use Rattle.load.proofs.gather.no_accelerators.Tie as tie
+use Rattle.load.proofs.gather.no_accelerators.Reads as reads
+use Rattle.load.proofs.gather.no_accelerators.Lts as lts
+use Rattle.load.proofs.gather.no_metrics.Reads as no-metrics-reads
+
+-- src/gather.rt:41:9
+no-metrics-requires : tie.Need-no-metrics-requires
+no-metrics-requires c κs = search needs
+
+-- src/gather.rt:42:9
+no-metrics-requires-2 : tie.Need-no-metrics-requires-2
+no-metrics-requires-2 c κs = search needs
+
+-- src/gather.rt:38:1
+returns : tie.Need-returns
+returns c = rw (c .before .no-metrics .ensures, c .no-metrics2 .ensures)
+
+pub no-accelerators-spec : {M : Type 1} → statement M
+no-accelerators-spec = tie.close (tie.spec no-metrics-requires no-metrics-requires-2 returns)

@@ -1,0 +1,17 @@
+use borrow.Author.Needs.{needs}
+use Rattle.load.proofs.gather.nothing_yet.Statement.{statement}
+use Rattle.load.proofs.gather.nothing_yet.Tie as tie
+use Rattle.load.proofs.gather.nothing_yet.Reads as reads
+use Rattle.load.proofs.gather.nothing_yet.Lts as lts
+use Rattle.load.proofs.gather.no_accelerators.Reads as no-accelerators-reads
+
+-- src/gather.rt:65:9
+no-accelerators-requires : tie.Need-no-accelerators-requires
+no-accelerators-requires c κs = search needs
+
+-- src/gather.rt:62:1
+returns : tie.Need-returns
+returns c = rw (c .no-accelerators .ensures)
+
+pub nothing-yet-spec : {M : Type 1} → statement M
+nothing-yet-spec = tie.close (tie.spec no-accelerators-requires returns)
