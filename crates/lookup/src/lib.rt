@@ -1,6 +1,13 @@
 // From a character code to a glyph.
+use reads::CharCode;
 use reads::GlyphIndex;
 use reads::Refusal;
+use reads::u16_at;
+use tables::EncodingData;
+use tables::Record;
+use tables::record_fits;
+ghost use mathlib.Core.Path.{_≡_};
+ghost use Rattle.lookup.specs.Lookup.{oneByte, slotWhole, slotBytes, slotOf, entryGlyph, glyphOf, getGlyph};
 
 pub enum Found {
     Glyph(GlyphIndex),
@@ -9,6 +16,105 @@ pub enum Found {
 
 // Which entry of the code table a code has.
 pub enum Slot {
-    At(usize),
+    At(u32),
     Nothing,
+}
+
+// Whether codes are one number, and not two bytes.
+fn one_byte(c: EncodingData) -> bool
+    ensures { λ r. ⌜ r ≡ oneByte c ⌝ }
+{
+    (c.low1 == 0) & (c.high1 == 0)
+}
+
+// The entry of a code, where the code is one number.
+fn slot_whole(c: EncodingData, n: u32) -> Slot
+    ensures { λ r. ⌜ r ≡ slotWhole c n ⌝ }
+{
+    let low2 = c.low2 as u32;
+    let high2 = c.high2 as u32;
+    if n < low2 {
+        return Slot::Nothing;
+    }
+    if high2 < n {
+        return Slot::Nothing;
+    }
+    Slot::At(n - low2)
+}
+
+// The entry of a code, where the code is two bytes.
+fn slot_bytes(c: EncodingData, byte1: u32, byte2: u32) -> Slot
+    ensures { λ r. ⌜ r ≡ slotBytes c byte1 byte2 ⌝ }
+{
+    let low2 = c.low2 as u32;
+    let high2 = c.high2 as u32;
+    let low1 = c.low1 as u32;
+    let high1 = c.high1 as u32;
+    if byte1 < low1 {
+        return Slot::Nothing;
+    }
+    if high1 < byte1 {
+        return Slot::Nothing;
+    }
+    if byte2 < low2 {
+        return Slot::Nothing;
+    }
+    if high2 < byte2 {
+        return Slot::Nothing;
+    }
+    Slot::At((byte1 - low1) * (high2 - low2 + 1) + (byte2 - low2))
+}
+
+fn slot_of(c: EncodingData, n: u32) -> Slot
+    ensures { λ r. ⌜ r ≡ slotOf c n ⌝ }
+{
+    if 65535 < n {
+        return Slot::Nothing;
+    }
+    if one_byte(c) {
+        return slot_whole(c, n);
+    }
+    slot_bytes(c, n / 256, n % 256)
+}
+
+// An entry's glyph: 65,535 says that there is none.
+fn entry_glyph(g: u16) -> Found
+    ensures { λ r. ⌜ r ≡ entryGlyph g ⌝ }
+{
+    if g == 65535 {
+        return Found::Refused(Refusal {
+            number: 9,
+            place: 0,
+        });
+    }
+    Found::Glyph(GlyphIndex(g))
+}
+
+// The glyph of a code in this table, or 9. The record has been tested.
+pub fn glyph_of(s: &[u8], codes: EncodingData, code: CharCode) -> Found
+    ensures { λ r. ⌜ r ≡ glyphOf (now (s .entry)) codes (code .0) ⌝ }
+{
+    let slot = slot_of(codes, code.0);
+    match slot {
+        Slot::At(i) => entry_glyph(u16_at(s, codes.entries, 2 * (i as usize), codes.big)),
+        Slot::Nothing => Found::Refused(Refusal {
+            number: 9,
+            place: 0,
+        }),
+    }
+}
+
+// The glyph of a character code. 6 for a record that does not serve with these bytes, 9 where the
+// font has no glyph for the code.
+pub fn get_glyph(bytes: &[u8], rec: Record, code: CharCode) -> Found
+    ensures { λ r. ⌜ r ≡ getGlyph (now (bytes .entry)) rec (code .0) ⌝ }
+{
+    if record_fits(bytes.len(), rec) {
+        glyph_of(bytes, rec.codes, code)
+    } else {
+        Found::Refused(Refusal {
+            number: 6,
+            place: 0,
+        })
+    }
 }

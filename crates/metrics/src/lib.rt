@@ -1,7 +1,17 @@
 // A glyph's metrics, and the accelerators with the bounds of all glyphs.
+use reads::GlyphIndex;
 use reads::Refusal;
 use tables::AcceleratorUnpacked;
+use tables::MetricsData;
 use tables::MetricsUnpacked;
+use tables::Record;
+use tables::metric_bytes;
+use tables::narrow_at;
+use tables::record_fits;
+use tables::wide_at;
+ghost use mathlib.Core.Path.{_≡_};
+ghost use Prim.Native.Nat.{_+_};
+ghost use Rattle.metrics.specs.Measure.{measuredAt, metricsOf, getMetrics, getAccelerators};
 
 pub enum Measured {
     Metrics(MetricsUnpacked),
@@ -11,4 +21,67 @@ pub enum Measured {
 pub enum Accelerated {
     Accelerators(AcceleratorUnpacked),
     Refused(Refusal),
+}
+
+// A record of either form, `offset` bytes after `start`.
+fn measured_at(
+    s: &[u8],
+    start: usize,
+    offset: usize,
+    compressed: bool,
+    big: bool,
+) -> MetricsUnpacked
+    ensures { λ r. ⌜ r ≡ measuredAt compressed big (now (s .entry)) (start + offset) ⌝ }
+{
+    if compressed {
+        narrow_at(s, start, offset)
+    } else {
+        wide_at(s, start, offset, big)
+    }
+}
+
+// The metrics of a glyph in this table, or 10. The record has been tested.
+pub fn metrics_of(s: &[u8], m: MetricsData, g: GlyphIndex) -> Measured
+    ensures { λ r. ⌜ r ≡ metricsOf (now (s .entry)) m (g .0) ⌝ }
+{
+    let i = g.0 as u32;
+    if m.count <= i {
+        return Measured::Refused(Refusal {
+            number: 10,
+            place: 0,
+        });
+    }
+    let offset = metric_bytes(m.compressed) * (i as usize);
+    Measured::Metrics(measured_at(s, m.records, offset, m.compressed, m.big))
+}
+
+// A glyph's metrics. 6 for a record that does not serve with these bytes, 10 for a glyph at or above
+// the metrics count.
+pub fn get_metrics(bytes: &[u8], rec: Record, glyph: GlyphIndex) -> Measured
+    ensures { λ r. ⌜ r ≡ getMetrics (now (bytes .entry)) rec (glyph .0) ⌝ }
+{
+    if record_fits(bytes.len(), rec) {
+        metrics_of(bytes, rec.metrics, glyph)
+    } else {
+        Measured::Refused(Refusal {
+            number: 6,
+            place: 0,
+        })
+    }
+}
+
+// The accelerators, the bounds of all glyphs among them. 6 for a record that does not serve with
+// these bytes.
+pub fn get_accelerators(bytes: &[u8], rec: Record) -> Accelerated
+    ensures { λ r. ⌜ r ≡ getAccelerators (now (bytes .entry)) rec ⌝ }
+{
+    if record_fits(bytes.len(), rec) {
+        let accel = rec.accel;
+        Accelerated::Accelerators(accel)
+    } else {
+        Accelerated::Refused(Refusal {
+            number: 6,
+            place: 0,
+        })
+    }
 }

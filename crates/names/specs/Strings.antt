@@ -3,10 +3,11 @@
 use Prim.Native.Nat.{ℕ, zero, suc, _+_, _-_}
 use mathlib.Core.Bool.{cond}
 use mathlib.Core.List.{List}
-use lib.ListN.{take, drop}
+use lib.ListN.{length, take, drop}
 use lib.Dec.{ltb, eqb}
 use Rattle.reads.specs.Num.{byteAt}
 use Rattle.reads.specs.Said.{refusal}
+use Rattle.tables.specs.Fits.{inside}
 use Rattle.names.specs.declared.Span.{Span}
 use Rattle.names.specs.declared.Named.{Named}
 use Rattle.names.specs.declared.Zero.{Zero}
@@ -20,10 +21,12 @@ abbrev pub spanTo : ℕ → Zero → Named
 spanTo start (Zero.After len) = Named.Name (record { start = start; len = len })
 spanTo start Zero.Nothing = Named.Refused (refusal 18 0)
 
--- the string that starts `from` bytes into the string data, which is `size` bytes from `strings` on
+-- the string that starts `from` bytes into the string data, which is `size` bytes from `strings` on; 6 where that lies outside the bytes
 unfoldable pub stringAt : List ℕ → ℕ → ℕ → ℕ → Named
 stringAt s strings size from =
-    cond (ltb size from) (Named.Refused (refusal 18 0)) (spanTo (strings + from) (zeroFrom s (strings + from) (size - from) 0))
+    cond (inside (length s) strings size)
+    (cond (ltb size from) (Named.Refused (refusal 18 0)) (spanTo (strings + from) (zeroFrom s (strings + from) (size - from) 0)))
+    (Named.Refused (refusal 6 0))
 
 -- the bytes of a span
 abbrev pub partOf : List ℕ → Span → List ℕ

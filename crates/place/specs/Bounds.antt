@@ -10,7 +10,7 @@ use Rattle.reads.specs.Said.{Said, refusal, says, refuses}
 use Rattle.tables.specs.Fits.{recordFits}
 use Rattle.tables.specs.declared.MetricsUnpacked.{MetricsUnpacked}
 use Rattle.tables.specs.declared.Record.{Record}
-use Rattle.place.specs.declared.Dimensions.{Dimensions}
+use Rattle.place.specs.declared.Extent.{Extent}
 use Rattle.place.specs.declared.Sized.{Sized}
 
 -- ascent + descent, in whole numbers
@@ -30,16 +30,16 @@ unfoldable pub boundsHold : MetricsUnpacked → Bool
 boundsHold m = nonNeg (m .ascent) && nonNeg (m .width) && inRange (heightOf m)
 
 -- of bounds that hold: the height, then the width
-abbrev pub dimensionsOf : MetricsUnpacked → Dimensions
+abbrev pub dimensionsOf : MetricsUnpacked → Extent
 dimensionsOf m = record { height = natAbs (heightOf m); width = natAbs (m .width) }
+
+-- the bounds' dimensions, or 11
+unfoldable pub boundsSized : MetricsUnpacked → Sized
+boundsSized m = cond (boundsHold m) (Sized.Dimensions (dimensionsOf m)) (Sized.Refused (refusal 11 0))
 
 -- `dimensions`: 6, 11
 unfoldable pub dimensions : List ℕ → Record → Sized
-dimensions s rec =
-    cond (recordFits (length s) rec)
-    (cond (boundsHold (boundsOf rec)) (Sized.Dimensions (dimensionsOf (boundsOf rec)))
-    (Sized.Refused (refusal 11 0)))
-    (Sized.Refused (refusal 6 0))
+dimensions s rec = cond (recordFits (length s) rec) (boundsSized (boundsOf rec)) (Sized.Refused (refusal 6 0))
 
 abbrev pub saidSized : Sized → Said
 saidSized (Sized.Dimensions d) = says (pos (d .height) ∷ pos (d .width) ∷ [])

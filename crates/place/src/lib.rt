@@ -1,5 +1,8 @@
 // A character placed: its glyph's box, and drawing or unpacking that box.
+mod bounds;
+
 use bitmaps::Rows;
+pub use bounds::dimensions;
 use reads::GlyphIndex;
 use reads::Refusal;
 
@@ -16,13 +19,13 @@ pub struct GlyphInfo {
 
 // The maximum bounds' height and width, in 000's order.
 #[repr(C)]
-pub struct Dimensions {
+pub struct Extent {
     pub height: usize,
     pub width: usize,
 }
 
 pub enum Sized {
-    Dimensions(Dimensions),
+    Dimensions(Extent),
     Refused(Refusal),
 }
 

@@ -1,0 +1,30 @@
+use borrow.Author.Tests.{lt-ltb, le-ltb, le-leb, lt-leb, eq-eqb, ne-eqb}
+use Rattle.lookup.specs.Lookup.{getGlyph}
+use borrow.Author.Needs.{needs}
+use Rattle.lookup.proofs.get_glyph.Statement.{statement}
+use Rattle.lookup.proofs.get_glyph.Tie as tie
+use Rattle.lookup.proofs.get_glyph.Reads as reads
+use Rattle.lookup.proofs.get_glyph.Lts as lts
+use Rattle.lookup.proofs.glyph_of.Reads as glyph-of-reads
+use Rattle.tables.proofs.record_fits.Reads as record-fits-reads
+
+-- src/lib.rt:107:8
+record-fits-requires : tie.Need-record-fits-requires
+record-fits-requires c κs = search needs
+
+-- src/lib.rt:108:9
+glyph-of-requires : tie.Need-glyph-of-requires
+glyph-of-requires c κs = search needs
+
+-- src/lib.rt:104:1
+returns : tie.Need-returns
+unfolding getGlyph
+returns c = rw (← c .before .before .record-fits .ensures, c .before .if1 .taken, ← c .glyph-of .ensures)
+
+-- src/lib.rt:104:1
+returns-2 : tie.Need-returns-2
+unfolding getGlyph
+returns-2 c = rw (← c .before .record-fits .ensures, c .if1 .left)
+
+pub get-glyph-spec : {M : Type 1} → statement M
+get-glyph-spec = tie.close (tie.spec record-fits-requires glyph-of-requires returns returns-2)

@@ -1,0 +1,30 @@
+use borrow.Author.Tests.{lt-ltb, le-ltb, le-leb, lt-leb, eq-eqb, ne-eqb}
+use Rattle.metrics.specs.Measure.{getMetrics}
+use borrow.Author.Needs.{needs}
+use Rattle.metrics.proofs.get_metrics.Statement.{statement}
+use Rattle.metrics.proofs.get_metrics.Tie as tie
+use Rattle.metrics.proofs.get_metrics.Reads as reads
+use Rattle.metrics.proofs.get_metrics.Lts as lts
+use Rattle.metrics.proofs.metrics_of.Reads as metrics-of-reads
+use Rattle.tables.proofs.record_fits.Reads as record-fits-reads
+
+-- src/lib.rt:63:8
+record-fits-requires : tie.Need-record-fits-requires
+record-fits-requires c κs = search needs
+
+-- src/lib.rt:64:9
+metrics-of-requires : tie.Need-metrics-of-requires
+metrics-of-requires c κs = search needs
+
+-- src/lib.rt:60:1
+returns : tie.Need-returns
+unfolding getMetrics
+returns c = rw (← c .before .before .record-fits .ensures, c .before .if1 .taken, ← c .metrics-of .ensures)
+
+-- src/lib.rt:60:1
+returns-2 : tie.Need-returns-2
+unfolding getMetrics
+returns-2 c = rw (← c .before .record-fits .ensures, c .if1 .left)
+
+pub get-metrics-spec : {M : Type 1} → statement M
+get-metrics-spec = tie.close (tie.spec record-fits-requires metrics-of-requires returns returns-2)

@@ -1,0 +1,26 @@
+use borrow.Author.Needs.{needs}
+use Rattle.metrics.proofs.measured_at.Statement.{statement}
+use Rattle.metrics.proofs.measured_at.Tie as tie
+use Rattle.metrics.proofs.measured_at.Reads as reads
+use Rattle.metrics.proofs.measured_at.Lts as lts
+use Rattle.tables.proofs.narrow_at.Reads as narrow-at-reads
+use Rattle.tables.proofs.wide_at.Reads as wide-at-reads
+
+-- src/lib.rt:37:9
+narrow-at-requires : tie.Need-narrow-at-requires
+narrow-at-requires c κs = search needs
+
+-- src/lib.rt:39:9
+wide-at-requires : tie.Need-wide-at-requires
+wide-at-requires c κs = search needs
+
+-- src/lib.rt:27:1
+returns : tie.Need-returns
+returns c = rw (c .before .if1 .taken) (c .narrow-at .ensures)
+
+-- src/lib.rt:27:1
+returns-2 : tie.Need-returns-2
+returns-2 c = rw (c .before .if1 .left) (c .wide-at .ensures)
+
+pub measured-at-spec : {M : Type 1} → statement M
+measured-at-spec = tie.close (tie.spec narrow-at-requires wide-at-requires returns returns-2)

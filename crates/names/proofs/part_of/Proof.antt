@@ -1,0 +1,73 @@
+use native.Mathlib.Nat.{add-sub-cancel-left}
+use native.Mathlib.Omega.{arith}
+use Rattle.names.proofs.Parts.{part-past, part-cut}
+use borrow.Author.Needs.{needs}
+use Rattle.names.proofs.part_of.Statement.{statement}
+use Rattle.names.proofs.part_of.Tie as tie
+use Rattle.names.proofs.part_of.Reads as reads
+use Rattle.names.proofs.part_of.Lts as lts
+
+-- src/lib.rt:114:9
+slice-aggregate-result : tie.Need-slice-aggregate-result
+slice-aggregate-result c = search needs
+
+-- src/lib.rt:114:9
+returns : tie.Need-returns
+returns c = part-past (c .before .before .args .bytes .now) (c .before .before .args .span .start) (c .before .before .args .span .len) (omega arith)
+
+-- src/lib.rt:116:8
+sub-if2 : tie.Need-sub-if2
+sub-if2 c = search needs
+
+-- src/lib.rt:117:16
+sub-result : tie.Need-sub-result
+sub-result c = search needs
+
+-- src/lib.rt:117:16
+part-result-start : tie.Need-part-result-start
+part-result-start c = search needs
+
+-- src/lib.rt:117:16
+part-result-end : tie.Need-part-result-end
+part-result-end c = search needs
+
+-- src/lib.rt:117:9
+returns-2 : tie.Need-returns-2
+returns-2 c = part-cut (c .before .before .before .args .bytes .now) (c .before .before .before .args .span .start) (c .before .before .before .args .span .len) (omega arith)
+
+-- src/lib.rt:119:19
+add-result : tie.Need-add-result
+add-result c = search needs
+
+-- src/lib.rt:119:5
+sub-result-2 : tie.Need-sub-result-2
+sub-result-2 c = search needs
+
+-- src/lib.rt:119:5
+part-result-start-2 : tie.Need-part-result-start-2
+part-result-start-2 c = search needs
+
+-- src/lib.rt:119:5
+part-result-end-2 : tie.Need-part-result-end-2
+part-result-end-2 c = search needs
+
+-- src/lib.rt:108:1
+returns-3 : tie.Need-returns-3
+returns-3 c = simp add-sub-cancel-left
+
+pub part-of-spec : {M : Type 1} → statement M
+part-of-spec =
+    tie.close
+    (tie.spec
+    slice-aggregate-result
+    returns
+    sub-if2
+    sub-result
+    part-result-start
+    part-result-end
+    returns-2
+    add-result
+    sub-result-2
+    part-result-start-2
+    part-result-end-2
+    returns-3)

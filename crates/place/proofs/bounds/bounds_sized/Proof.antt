@@ -1,0 +1,55 @@
+use mir.Syntax.{w16, w32}
+use mathlib.Core.Path.{sym, _∙_}
+use Rattle.reads.proofs.Signed.{back}
+use Rattle.place.specs.Bounds.{boundsSized}
+use Rattle.place.proofs.Held.{held}
+use borrow.Author.Needs.{needs}
+use Rattle.place.proofs.bounds.bounds_sized.Statement.{statement}
+use Rattle.place.proofs.bounds.bounds_sized.Tie as tie
+use Rattle.place.proofs.bounds.bounds_sized.Reads as reads
+use Rattle.place.proofs.bounds.bounds_sized.Lts as lts
+use Rattle.place.proofs.bounds.bounds_hold.Reads as bounds-hold-reads
+use Rattle.place.proofs.bounds.height_of.Reads as height-of-reads
+use Rattle.place.proofs.bounds.natural_i16.Reads as natural-i16-reads
+use Rattle.place.proofs.bounds.natural_i32.Reads as natural-i32-reads
+
+-- src/bounds.rt:63:8
+bounds-hold-requires : tie.Need-bounds-hold-requires
+bounds-hold-requires c κs = search needs
+
+-- src/bounds.rt:64:34
+height-of-requires : tie.Need-height-of-requires
+height-of-requires c κs = search needs
+
+-- src/bounds.rt:64:13
+natural-i32-requires : tie.Need-natural-i32-requires
+natural-i32-requires c κs =
+    rw (back w32 (c .height-of .result) (c .height-of .ok), c .height-of .ensures) (held (c .before .before .before .args .m) (sym (c .before .before .bounds-hold .ensures) ∙ c .before .if1 .taken) .1)
+
+-- src/bounds.rt:65:13
+natural-i16-requires : tie.Need-natural-i16-requires
+natural-i16-requires c κs =
+    rw (back w16 (c .before .before .before .before .before .args .m .width) (c .struct-told .given .1 .1 .0 .1)) (held (c .before .before .before .before .before .args .m) (sym (c .before .before .before .before .bounds-hold .ensures) ∙ c .before .before .before .if1 .taken) .0)
+
+-- src/bounds.rt:60:1
+returns : tie.Need-returns
+unfolding boundsSized
+returns c =
+    rw (← c .before .before .before .before .before .bounds-hold .ensures, c .before .before .before .before .if1 .taken, c .before .before .natural-i32 .ensures, c .natural-i16 .ensures, back w32 (c .before .before .before .height-of .result) (c .before .before .before .height-of .ok), c .before .before .before .height-of .ensures, back w16 (c .before .before .before .before .before .before .args .m .width) (c .before .struct-told .given .1 .1 .0 .1))
+
+-- src/bounds.rt:60:1
+returns-2 : tie.Need-returns-2
+unfolding boundsSized
+returns-2 c =
+    rw (← c .before .bounds-hold .ensures, c .if1 .left)
+
+pub bounds-sized-spec : {M : Type 1} → statement M
+bounds-sized-spec =
+    tie.close
+    (tie.spec
+    bounds-hold-requires
+    height-of-requires
+    natural-i32-requires
+    natural-i16-requires
+    returns
+    returns-2)

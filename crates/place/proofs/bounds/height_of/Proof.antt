@@ -1,0 +1,21 @@
+use mir.Syntax.{w16, w32}
+use mathlib.Core.Path.{_∙_}
+use Rattle.reads.proofs.Signed.{back}
+use borrow.Author.Needs.{needs}
+use Rattle.place.proofs.bounds.height_of.Statement.{statement}
+use Rattle.place.proofs.bounds.height_of.Tie as tie
+use Rattle.place.proofs.bounds.height_of.Reads as reads
+use Rattle.place.proofs.bounds.height_of.Lts as lts
+use Rattle.place.proofs.bounds.sum_of.Reads as sum-of-reads
+
+-- src/bounds.rt:36:5
+sum-of-requires : tie.Need-sum-of-requires
+sum-of-requires c κs = search needs
+
+-- src/bounds.rt:33:1
+returns : tie.Need-returns
+returns c =
+    rw (back w32 (c .sum-of .result) (c .sum-of .ok)) (rw (back w16 (c .before .before .before .args .m .ascent) (c .before .before .struct-told .given .1 .1 .1 .0 .1), back w16 (c .before .before .before .args .m .descent) (c .before .before .struct-told .given .1 .1 .1 .1 .0 .1)) at (c .sum-of .ensures))
+
+pub height-of-spec : {M : Type 1} → statement M
+height-of-spec = tie.close (tie.spec sum-of-requires returns)

@@ -1,0 +1,14 @@
+use mir.Syntax.{w32}
+use mir.Facts.{toZ-ofZ}
+use Rattle.place.proofs.Whole.{from-zero}
+use Rattle.place.proofs.bounds.in_range.Statement.{statement}
+use Rattle.place.proofs.bounds.in_range.Tie as tie
+use Rattle.place.proofs.bounds.in_range.Reads as reads
+use Rattle.place.proofs.bounds.in_range.Lts as lts
+
+-- src/bounds.rt:26:1
+returns : tie.Need-returns
+returns c = rw (toZ-ofZ {w = w32} {z = c .args .z} (c .fits .z), from-zero (c .args .z))
+
+pub in-range-spec : {M : Type 1} → statement M
+in-range-spec = tie.close (tie.spec returns)

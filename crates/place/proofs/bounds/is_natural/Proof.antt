@@ -1,0 +1,14 @@
+use mir.Syntax.{w16}
+use mir.Facts.{toZ-ofZ}
+use Rattle.place.proofs.Whole.{from-zero}
+use Rattle.place.proofs.bounds.is_natural.Statement.{statement}
+use Rattle.place.proofs.bounds.is_natural.Tie as tie
+use Rattle.place.proofs.bounds.is_natural.Reads as reads
+use Rattle.place.proofs.bounds.is_natural.Lts as lts
+
+-- src/bounds.rt:14:1
+returns : tie.Need-returns
+returns c = rw (toZ-ofZ {w = w16} {z = c .args .z} (c .fits .z)) (from-zero (c .args .z))
+
+pub is-natural-spec : {M : Type 1} → statement M
+is-natural-spec = tie.close (tie.spec returns)

@@ -1,0 +1,18 @@
+use mir.Syntax.{w32}
+use mir.Facts.{toZ-ofZ, fits-natAbs}
+use borrow.Author.Needs.{needs}
+use Rattle.place.proofs.bounds.natural_i32.Statement.{statement}
+use Rattle.place.proofs.bounds.natural_i32.Tie as tie
+use Rattle.place.proofs.bounds.natural_i32.Reads as reads
+use Rattle.place.proofs.bounds.natural_i32.Lts as lts
+
+-- src/bounds.rt:56:5
+cast-result : tie.Need-cast-result
+cast-result c = rw (toZ-ofZ {w = w32} {z = c .args .z} (c .fits .z)) (search needs, fits-natAbs tt (c .fits .z))
+
+-- src/bounds.rt:52:1
+returns : tie.Need-returns
+returns c = search needs
+
+pub natural-i32-spec : {M : Type 1} → statement M
+natural-i32-spec = tie.close (tie.spec cast-result returns)

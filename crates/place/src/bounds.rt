@@ -1,0 +1,88 @@
+// The bounds of all glyphs, and what they make of a line of text.
+use crate::Extent;
+use crate::Sized;
+use reads::Refusal;
+use tables::MetricsUnpacked;
+use tables::Record;
+use tables::record_fits;
+ghost use mathlib.Core.Path.{_≡_};
+ghost use lib.Dec.{T};
+ghost use lib.IntN.{natAbs, _+ℤ_};
+ghost use lib.Signed.{nonNeg};
+ghost use Rattle.place.specs.Bounds.{heightOf, inRange, boundsHold, boundsSized, dimensions};
+
+fn is_natural(z: i16) -> bool
+    ensures { λ r. ⌜ r ≡ nonNeg z ⌝ }
+{
+    0 <= z
+}
+
+fn sum_of(a: i16, b: i16) -> i32
+    ensures { λ r. ⌜ r ≡ a +ℤ b ⌝ }
+{
+    (a as i32) + (b as i32)
+}
+
+fn in_range(z: i32) -> bool
+    ensures { λ r. ⌜ r ≡ inRange z ⌝ }
+{
+    (0 <= z) & (z <= 32767)
+}
+
+// Ascent and descent together.
+fn height_of(m: MetricsUnpacked) -> i32
+    ensures { λ r. ⌜ r ≡ heightOf m ⌝ }
+{
+    sum_of(m.ascent, m.descent)
+}
+
+fn bounds_hold(m: MetricsUnpacked) -> bool
+    ensures { λ r. ⌜ r ≡ boundsHold m ⌝ }
+{
+    is_natural(m.ascent) & is_natural(m.width) & in_range(height_of(m))
+}
+
+fn natural_i16(z: i16) -> usize
+    requires { ⌜ T (nonNeg z) ⌝ }
+    ensures { λ r. ⌜ r ≡ natAbs z ⌝ }
+{
+    z as usize
+}
+
+fn natural_i32(z: i32) -> usize
+    requires { ⌜ T (nonNeg z) ⌝ }
+    ensures { λ r. ⌜ r ≡ natAbs z ⌝ }
+{
+    z as usize
+}
+
+// The bounds' height and width, or 11.
+fn bounds_sized(m: MetricsUnpacked) -> Sized
+    ensures { λ r. ⌜ r ≡ boundsSized m ⌝ }
+{
+    if bounds_hold(m) {
+        let height = natural_i32(height_of(m));
+        let width = natural_i16(m.width);
+        Sized::Dimensions(Extent { height, width })
+    } else {
+        Sized::Refused(Refusal {
+            number: 11,
+            place: 0,
+        })
+    }
+}
+
+// The maximum bounds' height and width. 6 for a record that does not serve with these bytes, 11 for
+// bounds out of range.
+pub fn dimensions(bytes: &[u8], rec: Record) -> Sized
+    ensures { λ r. ⌜ r ≡ dimensions (now (bytes .entry)) rec ⌝ }
+{
+    if record_fits(bytes.len(), rec) {
+        bounds_sized(rec.accel.maxbounds)
+    } else {
+        Sized::Refused(Refusal {
+            number: 6,
+            place: 0,
+        })
+    }
+}
