@@ -8,7 +8,8 @@ font "of", where that is another one). A text is a string of bytes 0 to 255; "mo
 follows it and how many times.
 
 The definitions are computed by the prover: each case becomes an equation that holds by computation,
-in crates of a temporary copy of the repository. Nothing of it is kept."""
+in crates of a temporary folder, beside a copy of each crate's types and definitions without its
+functions. Nothing of it is kept."""
 import json
 import os
 import re
@@ -280,6 +281,25 @@ def crates():
     return [c for c in listed if c != "promises" and os.path.isdir(os.path.join(ROOT, "crates", c, "specs"))]
 
 
+def types_only(source):
+    """a crate's types, and the types of other crates that they name"""
+    uses = re.findall(r"^use \w+::[A-Z]\w*;\n", source, re.M)
+    types = re.findall(r"^(?:#\[.*\]\n)?pub (?:struct|enum) [^;{]*(?:;|\{(?:.*\n)*?\})\n", source, re.M)
+    named = "".join(types)
+    return "".join(u for u in uses if re.search(r"\b" + u[:-2].split("::")[1] + r"\b", named)) + "\n" + named
+
+
+def copy_definitions(folder):
+    for crate in crates():
+        old, new = (os.path.join(at, "crates", crate) for at in (ROOT, folder))
+        shutil.copytree(os.path.join(old, "specs"), os.path.join(new, "specs"))
+        os.makedirs(os.path.join(new, "src"))
+        with open(os.path.join(old, "src", "lib.rt"), encoding="utf-8") as f:
+            types = types_only(f.read())
+        with open(os.path.join(new, "src", "lib.rt"), "w", encoding="utf-8") as f:
+            f.write(types)
+
+
 def write_crate(folder, name, batch, fonts):
     uses, opened = openings()
     out = [HEAD + "\n".join(uses) + "\n" + SEEN]
@@ -328,10 +348,9 @@ def main():
     batches = [quick[i:i + BATCH] for i in range(0, len(quick), BATCH)]
     batches += [slow[i:i + 8] for i in range(0, len(slow), 8)]
     with tempfile.TemporaryDirectory() as folder:
-        shutil.copytree(os.path.join(ROOT, "crates"), os.path.join(folder, "crates"),
-                        ignore=shutil.ignore_patterns("promises", "must-fail"))
+        copy_definitions(folder)
         with open(os.path.join(ROOT, "crates.txt"), encoding="utf-8") as f:
-            lines = [line for line in f if not line.startswith("promises:")]
+            lines = [line for line in f if line.split(":")[0] in crates()]
         for i, batch in enumerate(batches):
             write_crate(folder, f"computed{i}", batch, fonts)
             lines.append(f"computed{i}: {' '.join(crates())}\n")
