@@ -5,8 +5,8 @@ use crate::GlyphNameData;
 use crate::MetricsData;
 use crate::PropertiesData;
 use crate::Record;
-use crate::codes::entry_count;
-use crate::metrics::metric_bytes;
+use crate::code_table::entry_count;
+use crate::metrics_table::metric_bytes;
 ghost use mathlib.Core.Path.{_≡_};
 ghost use Rattle.tables.specs.Fits.{inside, padFits, propsFit, metricsFit, bitmapsFit, codesFit, namesFit, recordFits};
 

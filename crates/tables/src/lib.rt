@@ -4,27 +4,27 @@
 //
 // Each table is read by one function, from the place where it begins and the end of its bytes. A
 // place is a u32, as in the directory, so that no sum of a table's numbers leaves a usize.
-mod accelerators;
-mod bitmaps;
-mod codes;
+mod accelerator_table;
+mod bitmap_table;
+mod code_table;
 mod fits;
 mod format;
 mod measures;
-mod metrics;
-mod names;
-mod properties;
+mod metrics_table;
+mod name_table;
+mod property_table;
 
-pub use accelerators::accelerators_at;
-pub use bitmaps::bitmaps_at;
-pub use codes::codes_at;
+pub use accelerator_table::accelerators_at;
+pub use bitmap_table::bitmaps_at;
+pub use code_table::codes_at;
 pub use fits::is_inside;
 pub use fits::record_fits;
 pub use measures::narrow_at;
 pub use measures::wide_at;
-pub use metrics::metric_bytes;
-pub use metrics::metrics_at;
-pub use names::names_at;
-pub use properties::properties_at;
+pub use metrics_table::metric_bytes;
+pub use metrics_table::metrics_at;
+pub use name_table::names_at;
+pub use property_table::properties_at;
 
 // Table 1. `count` property records of 9 bytes from `records` on; string data from `strings` on.
 #[repr(C)]

@@ -5,7 +5,7 @@ use Rattle.tables.proofs.fits.codes_fit.Statement.{statement}
 use Rattle.tables.proofs.fits.codes_fit.Tie as tie
 use Rattle.tables.proofs.fits.codes_fit.Reads as reads
 use Rattle.tables.proofs.fits.codes_fit.Lts as lts
-use Rattle.tables.proofs.codes.entry_count.Reads as entry-count-reads
+use Rattle.tables.proofs.code_table.entry_count.Reads as entry-count-reads
 use Rattle.tables.proofs.fits.is_inside.Reads as is-inside-reads
 
 -- src/fits.rt:51:9

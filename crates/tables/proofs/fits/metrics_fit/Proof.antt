@@ -8,7 +8,7 @@ use Rattle.tables.proofs.fits.metrics_fit.Tie as tie
 use Rattle.tables.proofs.fits.metrics_fit.Reads as reads
 use Rattle.tables.proofs.fits.metrics_fit.Lts as lts
 use Rattle.tables.proofs.fits.is_inside.Reads as is-inside-reads
-use Rattle.tables.proofs.metrics.metric_bytes.Reads as metric-bytes-reads
+use Rattle.tables.proofs.metrics_table.metric_bytes.Reads as metric-bytes-reads
 
 -- src/fits.rt:33:31
 metric-bytes-requires : tie.Need-metric-bytes-requires

@@ -1,73 +1,73 @@
 use borrow.Author.Tests.{lt-ltb, le-ltb, le-leb, lt-leb, eq-eqb, ne-eqb}
 use Rattle.tables.specs.Properties.{propertiesAt, propertiesTable}
 use borrow.Author.Needs.{needs}
-use Rattle.tables.proofs.properties.properties_at.Statement.{statement}
-use Rattle.tables.proofs.properties.properties_at.Tie as tie
-use Rattle.tables.proofs.properties.properties_at.Reads as reads
-use Rattle.tables.proofs.properties.properties_at.Lts as lts
+use Rattle.tables.proofs.property_table.properties_at.Statement.{statement}
+use Rattle.tables.proofs.property_table.properties_at.Tie as tie
+use Rattle.tables.proofs.property_table.properties_at.Reads as reads
+use Rattle.tables.proofs.property_table.properties_at.Lts as lts
 use Rattle.reads.proofs.u32_at.Reads as u32-at-reads
 use Rattle.tables.proofs.format.big_bit.Reads as big-bit-reads
 use Rattle.tables.proofs.format.format_at.Reads as format-at-reads
-use Rattle.tables.proofs.properties.padded_4.Reads as padded-4-reads
+use Rattle.tables.proofs.property_table.padded_4.Reads as padded-4-reads
 
--- src/properties.rt:25:23
+-- src/property_table.rt:25:23
 format-at-requires : tie.Need-format-at-requires
 format-at-requires c κs = search needs
 
--- src/properties.rt:25:9
+-- src/property_table.rt:25:9
 big-bit-requires : tie.Need-big-bit-requires
 big-bit-requires c κs = search needs
 
--- src/properties.rt:26:9
+-- src/property_table.rt:26:9
 u32-at-requires : tie.Need-u32-at-requires
 u32-at-requires c κs = search needs
 
--- src/properties.rt:27:36
+-- src/property_table.rt:27:36
 cast-padded-4 : tie.Need-cast-padded-4
 cast-padded-4 c = search needs
 
--- src/properties.rt:27:31
+-- src/property_table.rt:27:31
 mul-padded-4 : tie.Need-mul-padded-4
 mul-padded-4 c = search needs
 
--- src/properties.rt:27:27
+-- src/property_table.rt:27:27
 add-padded-4 : tie.Need-add-padded-4
 add-padded-4 c = search needs
 
--- src/properties.rt:27:9
+-- src/property_table.rt:27:9
 padded-4-requires : tie.Need-padded-4-requires
 padded-4-requires c κs = search needs
 
--- src/properties.rt:28:16
+-- src/property_table.rt:28:16
 u32-at-requires-2 : tie.Need-u32-at-requires-2
 u32-at-requires-2 c κs = search needs
 
--- src/properties.rt:28:16
+-- src/property_table.rt:28:16
 cast-size : tie.Need-cast-size
 cast-size c = search needs
 
--- src/properties.rt:29:19
+-- src/property_table.rt:29:19
 add-strings : tie.Need-add-strings
 add-strings c = search needs
 
--- src/properties.rt:29:19
+-- src/property_table.rt:29:19
 add-strings-2 : tie.Need-add-strings-2
 add-strings-2 c = search needs
 
--- src/properties.rt:30:14
+-- src/property_table.rt:30:14
 add-if1 : tie.Need-add-if1
 add-if1 c = search needs
 
--- src/properties.rt:31:9
+-- src/property_table.rt:31:9
 returns : tie.Need-returns
 unfolding propertiesAt propertiesTable
 returns c = rw (← c .before .before .before .before .before .format-at .ensures, ← c .before .before .before .before .big-bit .ensures, ← c .before .before .before .u32-at .ensures, ← c .before .before .padded-4 .ensures .0, ← c .before .u32-at2 .ensures, lt-ltb _ _ (c .if1 .taken))
 
--- src/properties.rt:36:18
+-- src/property_table.rt:36:18
 add-t13 : tie.Need-add-t13
 add-t13 c = search needs
 
--- src/properties.rt:21:1
+-- src/property_table.rt:21:1
 returns-2 : tie.Need-returns-2
 unfolding propertiesAt propertiesTable
 returns-2 c = rw (← c .before .before .before .before .before .format-at .ensures, ← c .before .before .before .before .big-bit .ensures, ← c .before .before .before .u32-at .ensures, ← c .before .before .padded-4 .ensures .0, ← c .before .u32-at2 .ensures, le-ltb _ _ (c .if1 .left))

@@ -1,26 +1,26 @@
 use borrow.Author.Tests.{lt-ltb, le-ltb, le-leb, lt-leb, eq-eqb, ne-eqb}
 use Rattle.tables.specs.Accelerators.{acceleratorsAt}
 use borrow.Author.Needs.{needs}
-use Rattle.tables.proofs.accelerators.accelerators_at.Statement.{statement}
-use Rattle.tables.proofs.accelerators.accelerators_at.Tie as tie
-use Rattle.tables.proofs.accelerators.accelerators_at.Reads as reads
-use Rattle.tables.proofs.accelerators.accelerators_at.Lts as lts
-use Rattle.tables.proofs.accelerators.accelerators_table.Reads as accelerators-table-reads
+use Rattle.tables.proofs.accelerator_table.accelerators_at.Statement.{statement}
+use Rattle.tables.proofs.accelerator_table.accelerators_at.Tie as tie
+use Rattle.tables.proofs.accelerator_table.accelerators_at.Reads as reads
+use Rattle.tables.proofs.accelerator_table.accelerators_at.Lts as lts
+use Rattle.tables.proofs.accelerator_table.accelerators_table.Reads as accelerators-table-reads
 
--- src/accelerators.rt:54:14
+-- src/accelerator_table.rt:54:14
 add-if1 : tie.Need-add-if1
 add-if1 c = search needs
 
--- src/accelerators.rt:55:9
+-- src/accelerator_table.rt:55:9
 returns : tie.Need-returns
 unfolding acceleratorsAt
 returns c = rw (lt-ltb _ _ (c .if1 .taken))
 
--- src/accelerators.rt:57:28
+-- src/accelerator_table.rt:57:28
 accelerators-table-requires : tie.Need-accelerators-table-requires
 accelerators-table-requires c κs = search needs
 
--- src/accelerators.rt:50:1
+-- src/accelerator_table.rt:50:1
 returns-2 : tie.Need-returns-2
 unfolding acceleratorsAt
 returns-2 c = rw (le-ltb _ _ (c .before .if1 .left), ← c .accelerators-table .ensures)

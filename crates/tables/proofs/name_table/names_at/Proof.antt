@@ -1,68 +1,68 @@
 use borrow.Author.Tests.{lt-ltb, le-ltb, le-leb, lt-leb, eq-eqb, ne-eqb}
 use Rattle.tables.specs.Names.{namesAt, namesTable}
 use borrow.Author.Needs.{needs}
-use Rattle.tables.proofs.names.names_at.Statement.{statement}
-use Rattle.tables.proofs.names.names_at.Tie as tie
-use Rattle.tables.proofs.names.names_at.Reads as reads
-use Rattle.tables.proofs.names.names_at.Lts as lts
+use Rattle.tables.proofs.name_table.names_at.Statement.{statement}
+use Rattle.tables.proofs.name_table.names_at.Tie as tie
+use Rattle.tables.proofs.name_table.names_at.Reads as reads
+use Rattle.tables.proofs.name_table.names_at.Lts as lts
 use Rattle.reads.proofs.u32_at.Reads as u32-at-reads
 use Rattle.tables.proofs.format.big_bit.Reads as big-bit-reads
 use Rattle.tables.proofs.format.format_at.Reads as format-at-reads
 
--- src/names.rt:15:23
+-- src/name_table.rt:15:23
 format-at-requires : tie.Need-format-at-requires
 format-at-requires c κs = search needs
 
--- src/names.rt:15:9
+-- src/name_table.rt:15:9
 big-bit-requires : tie.Need-big-bit-requires
 big-bit-requires c κs = search needs
 
--- src/names.rt:16:9
+-- src/name_table.rt:16:9
 u32-at-requires : tie.Need-u32-at-requires
 u32-at-requires c κs = search needs
 
--- src/names.rt:17:27
+-- src/name_table.rt:17:27
 cast-before : tie.Need-cast-before
 cast-before c = search needs
 
--- src/names.rt:17:22
+-- src/name_table.rt:17:22
 mul-before : tie.Need-mul-before
 mul-before c = search needs
 
--- src/names.rt:17:18
+-- src/name_table.rt:17:18
 add-before : tie.Need-add-before
 add-before c = search needs
 
--- src/names.rt:18:16
+-- src/name_table.rt:18:16
 u32-at-requires-2 : tie.Need-u32-at-requires-2
 u32-at-requires-2 c κs = search needs
 
--- src/names.rt:18:16
+-- src/name_table.rt:18:16
 cast-size : tie.Need-cast-size
 cast-size c = search needs
 
--- src/names.rt:19:19
+-- src/name_table.rt:19:19
 add-strings : tie.Need-add-strings
 add-strings c = search needs
 
--- src/names.rt:19:19
+-- src/name_table.rt:19:19
 add-strings-2 : tie.Need-add-strings-2
 add-strings-2 c = search needs
 
--- src/names.rt:20:14
+-- src/name_table.rt:20:14
 add-if1 : tie.Need-add-if1
 add-if1 c = search needs
 
--- src/names.rt:21:9
+-- src/name_table.rt:21:9
 returns : tie.Need-returns
 unfolding namesAt namesTable
 returns c = rw (← c .before .before .before .before .format-at .ensures, ← c .before .before .before .big-bit .ensures, ← c .before .before .u32-at .ensures, ← c .before .u32-at2 .ensures, lt-ltb _ _ (c .if1 .taken))
 
--- src/names.rt:26:18
+-- src/name_table.rt:26:18
 add-t12 : tie.Need-add-t12
 add-t12 c = search needs
 
--- src/names.rt:11:1
+-- src/name_table.rt:11:1
 returns-2 : tie.Need-returns-2
 unfolding namesAt namesTable
 returns-2 c = rw (← c .before .before .before .before .format-at .ensures, ← c .before .before .before .big-bit .ensures, ← c .before .before .u32-at .ensures, ← c .before .u32-at2 .ensures, le-ltb _ _ (c .if1 .left))
