@@ -1,2 +1,3 @@
 mod ProvedCases
 mod DumpF
+mod Unique

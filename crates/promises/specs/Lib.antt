@@ -2,3 +2,4 @@ pub mod Typed
 pub mod FontF
 pub mod Seen
 pub mod Cases
+pub mod Unique

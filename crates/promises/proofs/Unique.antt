@@ -1,0 +1,162 @@
+-- Each public function's contract, as it stands in the source, determines its answer: any two results that satisfy it for the same
+-- arguments are equal.
+use mathlib.Core.Path.{_≡_, sym, _∙_}
+use contract.Lifetimes.{Lfts}
+use borrow.Fn.Kinds.{Dens, resT, endedOf}
+use denote.Triple.Clauses.{AtExit}
+use denote.Ref.{now}
+use Rattle.promises.specs.Unique.{Fixes}
+use Rattle.reads.proofs.byte_at.Kinds as byte-at-kinds
+use Rattle.reads.proofs.byte_at.Reads as byte-at-reads
+use Rattle.reads.proofs.u16_at.Kinds as u16-at-kinds
+use Rattle.reads.proofs.u16_at.Reads as u16-at-reads
+use Rattle.reads.proofs.u32_at.Kinds as u32-at-kinds
+use Rattle.reads.proofs.u32_at.Reads as u32-at-reads
+use Rattle.reads.proofs.i16_at.Kinds as i16-at-kinds
+use Rattle.reads.proofs.i16_at.Reads as i16-at-reads
+use Rattle.reads.proofs.i32_at.Kinds as i32-at-kinds
+use Rattle.reads.proofs.i32_at.Reads as i32-at-reads
+use Rattle.reads.proofs.metric_of.Kinds as metric-of-kinds
+use Rattle.reads.proofs.metric_of.Reads as metric-of-reads
+use Rattle.reads.proofs.reach.Kinds as reach-kinds
+use Rattle.reads.proofs.reach.Reads as reach-reads
+use Rattle.tables.proofs.properties_at.Kinds as properties-at-kinds
+use Rattle.tables.proofs.properties_at.Reads as properties-at-reads
+use Rattle.tables.proofs.accelerators_at.Kinds as accelerators-at-kinds
+use Rattle.tables.proofs.accelerators_at.Reads as accelerators-at-reads
+use Rattle.tables.proofs.metrics_at.Kinds as metrics-at-kinds
+use Rattle.tables.proofs.metrics_at.Reads as metrics-at-reads
+use Rattle.tables.proofs.metric_bytes.Kinds as metric-bytes-kinds
+use Rattle.tables.proofs.metric_bytes.Reads as metric-bytes-reads
+use Rattle.tables.proofs.bitmaps_at.Kinds as bitmaps-at-kinds
+use Rattle.tables.proofs.bitmaps_at.Reads as bitmaps-at-reads
+use Rattle.tables.proofs.codes_at.Kinds as codes-at-kinds
+use Rattle.tables.proofs.codes_at.Reads as codes-at-reads
+use Rattle.tables.proofs.names_at.Kinds as names-at-kinds
+use Rattle.tables.proofs.names_at.Reads as names-at-reads
+use Rattle.tables.proofs.wide_at.Kinds as wide-at-kinds
+use Rattle.tables.proofs.wide_at.Reads as wide-at-reads
+use Rattle.tables.proofs.narrow_at.Kinds as narrow-at-kinds
+use Rattle.tables.proofs.narrow_at.Reads as narrow-at-reads
+use Rattle.tables.proofs.is_inside.Kinds as is-inside-kinds
+use Rattle.tables.proofs.is_inside.Reads as is-inside-reads
+use Rattle.tables.proofs.record_fits.Kinds as record-fits-kinds
+use Rattle.tables.proofs.record_fits.Reads as record-fits-reads
+use Rattle.load.proofs.load_pcf.Kinds as load-pcf-kinds
+use Rattle.load.proofs.load_pcf.Reads as load-pcf-reads
+use Rattle.lookup.proofs.glyph_of.Kinds as glyph-of-kinds
+use Rattle.lookup.proofs.glyph_of.Reads as glyph-of-reads
+use Rattle.lookup.proofs.get_glyph.Kinds as get-glyph-kinds
+use Rattle.lookup.proofs.get_glyph.Reads as get-glyph-reads
+use Rattle.names.proofs.string_at.Kinds as string-at-kinds
+use Rattle.names.proofs.string_at.Reads as string-at-reads
+use Rattle.names.proofs.get_name.Kinds as get-name-kinds
+use Rattle.names.proofs.get_name.Reads as get-name-reads
+use Rattle.props.proofs.prop_at.Kinds as prop-at-kinds
+use Rattle.props.proofs.prop_at.Reads as prop-at-reads
+use Rattle.metrics.proofs.metrics_of.Kinds as metrics-of-kinds
+use Rattle.metrics.proofs.metrics_of.Reads as metrics-of-reads
+use Rattle.metrics.proofs.get_metrics.Kinds as get-metrics-kinds
+use Rattle.metrics.proofs.get_metrics.Reads as get-metrics-reads
+use Rattle.metrics.proofs.get_accelerators.Kinds as get-accelerators-kinds
+use Rattle.metrics.proofs.get_accelerators.Reads as get-accelerators-reads
+use Rattle.place.proofs.dimensions.Kinds as dimensions-kinds
+use Rattle.place.proofs.dimensions.Reads as dimensions-reads
+use Rattle.names.proofs.part_of.Kinds as part-of-kinds
+use Rattle.names.proofs.part_of.Reads as part-of-reads
+use Rattle.names.proofs.name_bytes.Kinds as name-bytes-kinds
+use Rattle.names.proofs.name_bytes.Reads as name-bytes-reads
+
+pub byte-at-unique : Fixes 1 byte-at-kinds.ps byte-at-kinds.r byte-at-reads.Post
+byte-at-unique κs a r₁ r₂ x₁ x₂ p q = p ∙ sym q
+
+pub u16-at-unique : Fixes 1 u16-at-kinds.ps u16-at-kinds.r u16-at-reads.Post
+u16-at-unique κs a r₁ r₂ x₁ x₂ p q = p ∙ sym q
+
+pub u32-at-unique : Fixes 1 u32-at-kinds.ps u32-at-kinds.r u32-at-reads.Post
+u32-at-unique κs a r₁ r₂ x₁ x₂ p q = p ∙ sym q
+
+pub i16-at-unique : Fixes 1 i16-at-kinds.ps i16-at-kinds.r i16-at-reads.Post
+i16-at-unique κs a r₁ r₂ x₁ x₂ p q = p ∙ sym q
+
+pub i32-at-unique : Fixes 1 i32-at-kinds.ps i32-at-kinds.r i32-at-reads.Post
+i32-at-unique κs a r₁ r₂ x₁ x₂ p q = p ∙ sym q
+
+pub metric-of-unique : Fixes 0 metric-of-kinds.ps metric-of-kinds.r metric-of-reads.Post
+metric-of-unique κs a r₁ r₂ x₁ x₂ p q = p ∙ sym q
+
+pub reach-unique : Fixes 0 reach-kinds.ps reach-kinds.r reach-reads.Post
+reach-unique κs a r₁ r₂ x₁ x₂ p q = p ∙ sym q
+
+pub properties-at-unique : Fixes 1 properties-at-kinds.ps properties-at-kinds.r properties-at-reads.Post
+properties-at-unique κs a r₁ r₂ x₁ x₂ p q = p ∙ sym q
+
+pub accelerators-at-unique : Fixes 1 accelerators-at-kinds.ps accelerators-at-kinds.r accelerators-at-reads.Post
+accelerators-at-unique κs a r₁ r₂ x₁ x₂ p q = p ∙ sym q
+
+pub metrics-at-unique : Fixes 1 metrics-at-kinds.ps metrics-at-kinds.r metrics-at-reads.Post
+metrics-at-unique κs a r₁ r₂ x₁ x₂ p q = p ∙ sym q
+
+pub metric-bytes-unique : Fixes 0 metric-bytes-kinds.ps metric-bytes-kinds.r metric-bytes-reads.Post
+metric-bytes-unique κs a r₁ r₂ x₁ x₂ p q = p .0 ∙ sym (q .0)
+
+pub bitmaps-at-unique : Fixes 1 bitmaps-at-kinds.ps bitmaps-at-kinds.r bitmaps-at-reads.Post
+bitmaps-at-unique κs a r₁ r₂ x₁ x₂ p q = p ∙ sym q
+
+pub codes-at-unique : Fixes 1 codes-at-kinds.ps codes-at-kinds.r codes-at-reads.Post
+codes-at-unique κs a r₁ r₂ x₁ x₂ p q = p ∙ sym q
+
+pub names-at-unique : Fixes 1 names-at-kinds.ps names-at-kinds.r names-at-reads.Post
+names-at-unique κs a r₁ r₂ x₁ x₂ p q = p ∙ sym q
+
+pub wide-at-unique : Fixes 1 wide-at-kinds.ps wide-at-kinds.r wide-at-reads.Post
+wide-at-unique κs a r₁ r₂ x₁ x₂ p q = p ∙ sym q
+
+pub narrow-at-unique : Fixes 1 narrow-at-kinds.ps narrow-at-kinds.r narrow-at-reads.Post
+narrow-at-unique κs a r₁ r₂ x₁ x₂ p q = p ∙ sym q
+
+pub is-inside-unique : Fixes 0 is-inside-kinds.ps is-inside-kinds.r is-inside-reads.Post
+is-inside-unique κs a r₁ r₂ x₁ x₂ p q = p ∙ sym q
+
+pub record-fits-unique : Fixes 0 record-fits-kinds.ps record-fits-kinds.r record-fits-reads.Post
+record-fits-unique κs a r₁ r₂ x₁ x₂ p q = p ∙ sym q
+
+pub load-pcf-unique : Fixes 1 load-pcf-kinds.ps load-pcf-kinds.r load-pcf-reads.Post
+load-pcf-unique κs a r₁ r₂ x₁ x₂ p q = p ∙ sym q
+
+pub glyph-of-unique : Fixes 1 glyph-of-kinds.ps glyph-of-kinds.r glyph-of-reads.Post
+glyph-of-unique κs a r₁ r₂ x₁ x₂ p q = p ∙ sym q
+
+pub get-glyph-unique : Fixes 1 get-glyph-kinds.ps get-glyph-kinds.r get-glyph-reads.Post
+get-glyph-unique κs a r₁ r₂ x₁ x₂ p q = p ∙ sym q
+
+pub string-at-unique : Fixes 1 string-at-kinds.ps string-at-kinds.r string-at-reads.Post
+string-at-unique κs a r₁ r₂ x₁ x₂ p q = p ∙ sym q
+
+pub get-name-unique : Fixes 1 get-name-kinds.ps get-name-kinds.r get-name-reads.Post
+get-name-unique κs a r₁ r₂ x₁ x₂ p q = p ∙ sym q
+
+pub prop-at-unique : Fixes 1 prop-at-kinds.ps prop-at-kinds.r prop-at-reads.Post
+prop-at-unique κs a r₁ r₂ x₁ x₂ p q = p ∙ sym q
+
+pub metrics-of-unique : Fixes 1 metrics-of-kinds.ps metrics-of-kinds.r metrics-of-reads.Post
+metrics-of-unique κs a r₁ r₂ x₁ x₂ p q = p ∙ sym q
+
+pub get-metrics-unique : Fixes 1 get-metrics-kinds.ps get-metrics-kinds.r get-metrics-reads.Post
+get-metrics-unique κs a r₁ r₂ x₁ x₂ p q = p ∙ sym q
+
+pub get-accelerators-unique : Fixes 1 get-accelerators-kinds.ps get-accelerators-kinds.r get-accelerators-reads.Post
+get-accelerators-unique κs a r₁ r₂ x₁ x₂ p q = p ∙ sym q
+
+pub dimensions-unique : Fixes 1 dimensions-kinds.ps dimensions-kinds.r dimensions-reads.Post
+dimensions-unique κs a r₁ r₂ x₁ x₂ p q = p ∙ sym q
+
+-- a returned part: its bytes
+pub part-of-unique : (κs : Lfts 1) (a : Dens κs part-of-kinds.ps) (r₁ r₂ : resT part-of-kinds.r κs .Denot) (x₁ x₂ : AtExit (endedOf 1 part-of-kinds.ps part-of-kinds.r) κs)
+    → part-of-reads.Post κs a r₁ x₁ → part-of-reads.Post κs a r₂ x₂ → now r₁ ≡ now r₂
+part-of-unique κs a r₁ r₂ x₁ x₂ p q = p ∙ sym q
+
+-- a returned part: its bytes
+pub name-bytes-unique : (κs : Lfts 1) (a : Dens κs name-bytes-kinds.ps) (r₁ r₂ : resT name-bytes-kinds.r κs .Denot) (x₁ x₂ : AtExit (endedOf 1 name-bytes-kinds.ps name-bytes-kinds.r) κs)
+    → name-bytes-reads.Post κs a r₁ x₁ → name-bytes-reads.Post κs a r₂ x₂ → now r₁ ≡ now r₂
+name-bytes-unique κs a r₁ r₂ x₁ x₂ p q = p ∙ sym q

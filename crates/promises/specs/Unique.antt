@@ -1,0 +1,15 @@
+-- "Each public function's contract determines its result [...] Prove that any two results that satisfy it are equal." The contract is
+-- the one that Rattle reads from the source, with what the arguments and the results mean.
+use mathlib.Core.Path.{_≡_}
+use mathlib.Core.List.{List}
+use Prim.Native.Nat.{ℕ}
+use contract.Lifetimes.{Lfts}
+use borrow.Fn.Kind.{PK, RK}
+use borrow.Fn.Kinds.{Out, Dens, resT, endedOf}
+use denote.Triple.Clauses.{AtExit}
+
+-- a contract of a function with n lifetimes, these parameters and this result: results that it allows for the same arguments are equal
+abbrev pub Fixes : (n : ℕ) (ps : List (PK n)) (r : RK n) → Out n ps r → Type 0
+Fixes n ps r Contract =
+    (κs : Lfts n) (a : Dens κs ps) (r₁ r₂ : resT r κs .Denot) (x₁ x₂ : AtExit (endedOf n ps r) κs)
+    → Contract κs a r₁ x₁ → Contract κs a r₂ x₂ → r₁ ≡ r₂
