@@ -1,1 +1,3 @@
 pub mod Entries
+mod TablesFit
+pub mod Serves

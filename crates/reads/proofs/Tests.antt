@@ -1,9 +1,12 @@
 -- The laws of tests: a test by subtraction is the test of the whole sum, and what a test's answer tells.
-use mathlib.Core.Path.{_≡_, refl, sym, _∙_}
-use mathlib.Core.Bool.{Bool, true, false}
+use mathlib.Core.Path.{_≡_, refl, sym, subst, _∙_}
+use mathlib.Core.Bool.{Bool, true, false, cond, _&&_}
 use Prim.Native.Nat.{ℕ, _≤_}
-use lib.Dec.{leb}
+use lib.Dec.{T, leb}
 use borrow.Author.Tests.{leb-true, le-leb}
+
+pub never : {P : Type 0} → false ≡ true → P
+never e = absurd (subst T (sym e) tt)
 
 -- a case on a test, with its answer
 pub split {ℓ} : {P : Type ℓ} (t : Bool) → (t ≡ true → P) → (t ≡ false → P) → P
@@ -16,3 +19,13 @@ same-leb a b c d f g =
     split (leb c d)
     (λ t. le-leb a b (g (leb-true c d t)) ∙ sym t)
     (λ t. split (leb a b) (λ u. u ∙ sym (le-leb c d (f (leb-true a b u)))) (λ u. u ∙ sym t))
+
+-- a choice has what both its sides have
+pub either {ℓ m} : {A : Type ℓ} (P : A → Type m) (t : Bool) {x y : A} → P x → P y → P (cond t x y)
+either P true p q = p
+either P false p q = q
+
+-- what it tells that both of two tests hold
+pub both : (a b : Bool) → (a && b) ≡ true → (a ≡ true) × (b ≡ true)
+both true b e = (refl, e)
+both false b e = never e

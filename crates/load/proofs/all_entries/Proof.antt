@@ -7,11 +7,6 @@ use Rattle.load.specs.Load.{entriesFrom}
 use Rattle.load.proofs.Entries.{entries-next, entries-stop, entries-end}
 use Rattle.load.proofs.all_entries.Statement.{statement}
 use Rattle.load.proofs.all_entries.Tie as tie
-use Rattle.load.proofs.all_entries.Reads as reads
-use Rattle.load.proofs.all_entries.Lts as lts
-use Rattle.load.proofs.entry_at.Reads as entry-at-reads
-use Rattle.load.proofs.gather.finish.Reads as finish-reads
-use Rattle.load.proofs.gather.nothing_yet.Reads as nothing-yet-reads
 
 abbrev Inv-loop : tie.InvT-loop
 Inv-loop s count g₀ k₀ g k = (k ≤ count) × (entriesFrom s (count - k) k g ≡ entriesFrom s count 0 nothing)

@@ -1,13 +1,8 @@
 use native.Mathlib.Nat.{add-zero}
-use borrow.Author.Tests.{lt-ltb, le-ltb, le-leb, lt-leb, eq-eqb, ne-eqb}
 use Rattle.load.specs.Load.{entryAt}
 use borrow.Author.Needs.{needs}
 use Rattle.load.proofs.entry_at.Statement.{statement}
 use Rattle.load.proofs.entry_at.Tie as tie
-use Rattle.load.proofs.entry_at.Reads as reads
-use Rattle.load.proofs.entry_at.Lts as lts
-use Rattle.load.proofs.entry_of.Reads as entry-of-reads
-use Rattle.reads.proofs.u32_at.Reads as u32-at-reads
 
 -- src/lib.rt:105:18
 mul-at : tie.Need-mul-at

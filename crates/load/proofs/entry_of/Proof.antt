@@ -1,12 +1,8 @@
-use borrow.Author.Tests.{lt-ltb, le-ltb, le-leb, lt-leb, eq-eqb, ne-eqb}
+use borrow.Author.Tests.{lt-ltb, le-ltb}
 use Rattle.load.specs.Load.{entryOf}
 use borrow.Author.Needs.{needs}
 use Rattle.load.proofs.entry_of.Statement.{statement}
 use Rattle.load.proofs.entry_of.Tie as tie
-use Rattle.load.proofs.entry_of.Reads as reads
-use Rattle.load.proofs.entry_of.Lts as lts
-use Rattle.load.proofs.lesser_of.Reads as lesser-of-reads
-use Rattle.load.proofs.table_of.Reads as table-of-reads
 
 -- src/lib.rt:94:9
 returns : tie.Need-returns

@@ -1,12 +1,8 @@
-use borrow.Author.Tests.{lt-ltb, le-ltb, le-leb, lt-leb, eq-eqb, ne-eqb}
+use borrow.Author.Tests.{lt-ltb, le-ltb, eq-eqb, ne-eqb}
 use Rattle.load.specs.Load.{loaded}
 use borrow.Author.Needs.{needs}
 use Rattle.load.proofs.load_pcf.Statement.{statement}
 use Rattle.load.proofs.load_pcf.Tie as tie
-use Rattle.load.proofs.load_pcf.Reads as reads
-use Rattle.load.proofs.load_pcf.Lts as lts
-use Rattle.load.proofs.all_entries.Reads as all-entries-reads
-use Rattle.reads.proofs.u32_at.Reads as u32-at-reads
 
 -- src/lib.rt:142:9
 returns : tie.Need-returns

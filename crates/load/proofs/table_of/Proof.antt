@@ -1,22 +1,8 @@
-use borrow.Author.Tests.{lt-ltb, le-ltb, le-leb, lt-leb, eq-eqb, ne-eqb}
+use borrow.Author.Tests.{eq-eqb, ne-eqb}
 use Rattle.load.specs.Load.{tableOf}
 use borrow.Author.Needs.{needs}
 use Rattle.load.proofs.table_of.Statement.{statement}
 use Rattle.load.proofs.table_of.Tie as tie
-use Rattle.load.proofs.table_of.Reads as reads
-use Rattle.load.proofs.table_of.Lts as lts
-use Rattle.load.proofs.gather.got_accel.Reads as got-accel-reads
-use Rattle.load.proofs.gather.got_bitmaps.Reads as got-bitmaps-reads
-use Rattle.load.proofs.gather.got_codes.Reads as got-codes-reads
-use Rattle.load.proofs.gather.got_metrics.Reads as got-metrics-reads
-use Rattle.load.proofs.gather.got_names.Reads as got-names-reads
-use Rattle.load.proofs.gather.got_props.Reads as got-props-reads
-use Rattle.tables.proofs.accelerators_at.Reads as accelerators-at-reads
-use Rattle.tables.proofs.bitmaps_at.Reads as bitmaps-at-reads
-use Rattle.tables.proofs.codes_at.Reads as codes-at-reads
-use Rattle.tables.proofs.metrics_at.Reads as metrics-at-reads
-use Rattle.tables.proofs.names_at.Reads as names-at-reads
-use Rattle.tables.proofs.properties_at.Reads as properties-at-reads
 
 -- src/lib.rt:66:29
 properties-at-requires : tie.Need-properties-at-requires

@@ -1,8 +1,6 @@
 use borrow.Author.Tests.{eq-eqb, ne-eqb}
 use Rattle.lookup.proofs.entry_glyph.Statement.{statement}
 use Rattle.lookup.proofs.entry_glyph.Tie as tie
-use Rattle.lookup.proofs.entry_glyph.Reads as reads
-use Rattle.lookup.proofs.entry_glyph.Lts as lts
 
 -- src/lib.rt:80:9
 returns : tie.Need-returns

@@ -1,12 +1,7 @@
-use borrow.Author.Tests.{lt-ltb, le-ltb, le-leb, lt-leb, eq-eqb, ne-eqb}
 use Rattle.lookup.specs.Lookup.{getGlyph}
 use borrow.Author.Needs.{needs}
 use Rattle.lookup.proofs.get_glyph.Statement.{statement}
 use Rattle.lookup.proofs.get_glyph.Tie as tie
-use Rattle.lookup.proofs.get_glyph.Reads as reads
-use Rattle.lookup.proofs.get_glyph.Lts as lts
-use Rattle.lookup.proofs.glyph_of.Reads as glyph-of-reads
-use Rattle.tables.proofs.record_fits.Reads as record-fits-reads
 
 -- src/lib.rt:107:8
 record-fits-requires : tie.Need-record-fits-requires

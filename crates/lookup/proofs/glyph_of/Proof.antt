@@ -1,13 +1,7 @@
-use borrow.Author.Tests.{lt-ltb, le-ltb, le-leb, lt-leb, eq-eqb, ne-eqb}
 use Rattle.lookup.specs.Lookup.{glyphOf}
 use borrow.Author.Needs.{needs}
 use Rattle.lookup.proofs.glyph_of.Statement.{statement}
 use Rattle.lookup.proofs.glyph_of.Tie as tie
-use Rattle.lookup.proofs.glyph_of.Reads as reads
-use Rattle.lookup.proofs.glyph_of.Lts as lts
-use Rattle.lookup.proofs.entry_glyph.Reads as entry-glyph-reads
-use Rattle.lookup.proofs.slot_of.Reads as slot-of-reads
-use Rattle.reads.proofs.u16_at.Reads as u16-at-reads
 
 -- src/lib.rt:92:9
 slot-of-requires : tie.Need-slot-of-requires

@@ -5,8 +5,6 @@ use native.Mathlib.Nat.{mul-le-mul}
 use borrow.Author.Needs.{needs}
 use Rattle.lookup.proofs.slot_bytes.Statement.{statement}
 use Rattle.lookup.proofs.slot_bytes.Tie as tie
-use Rattle.lookup.proofs.slot_bytes.Reads as reads
-use Rattle.lookup.proofs.slot_bytes.Lts as lts
 
 -- src/lib.rt:42:16
 cast-low2 : tie.Need-cast-low2

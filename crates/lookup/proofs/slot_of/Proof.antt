@@ -1,13 +1,8 @@
-use borrow.Author.Tests.{lt-ltb, le-ltb, le-leb, lt-leb, eq-eqb, ne-eqb}
+use borrow.Author.Tests.{lt-ltb, le-ltb}
 use Rattle.lookup.specs.Lookup.{slotOf}
 use borrow.Author.Needs.{needs}
 use Rattle.lookup.proofs.slot_of.Statement.{statement}
 use Rattle.lookup.proofs.slot_of.Tie as tie
-use Rattle.lookup.proofs.slot_of.Reads as reads
-use Rattle.lookup.proofs.slot_of.Lts as lts
-use Rattle.lookup.proofs.one_byte.Reads as one-byte-reads
-use Rattle.lookup.proofs.slot_bytes.Reads as slot-bytes-reads
-use Rattle.lookup.proofs.slot_whole.Reads as slot-whole-reads
 
 -- src/lib.rt:72:9
 returns : tie.Need-returns

@@ -2,8 +2,6 @@ use borrow.Author.Tests.{le-leb, lt-leb}
 use borrow.Author.Needs.{needs}
 use Rattle.lookup.proofs.slot_whole.Statement.{statement}
 use Rattle.lookup.proofs.slot_whole.Tie as tie
-use Rattle.lookup.proofs.slot_whole.Reads as reads
-use Rattle.lookup.proofs.slot_whole.Lts as lts
 
 -- src/lib.rt:27:16
 cast-low2 : tie.Need-cast-low2

@@ -1,11 +1,7 @@
-use borrow.Author.Tests.{lt-ltb, le-ltb, le-leb, lt-leb, eq-eqb, ne-eqb}
 use Rattle.metrics.specs.Measure.{getAccelerators}
 use borrow.Author.Needs.{needs}
 use Rattle.metrics.proofs.get_accelerators.Statement.{statement}
 use Rattle.metrics.proofs.get_accelerators.Tie as tie
-use Rattle.metrics.proofs.get_accelerators.Reads as reads
-use Rattle.metrics.proofs.get_accelerators.Lts as lts
-use Rattle.tables.proofs.record_fits.Reads as record-fits-reads
 
 -- src/lib.rt:78:8
 record-fits-requires : tie.Need-record-fits-requires

@@ -1,12 +1,7 @@
-use borrow.Author.Tests.{lt-ltb, le-ltb, le-leb, lt-leb, eq-eqb, ne-eqb}
 use Rattle.metrics.specs.Measure.{getMetrics}
 use borrow.Author.Needs.{needs}
 use Rattle.metrics.proofs.get_metrics.Statement.{statement}
 use Rattle.metrics.proofs.get_metrics.Tie as tie
-use Rattle.metrics.proofs.get_metrics.Reads as reads
-use Rattle.metrics.proofs.get_metrics.Lts as lts
-use Rattle.metrics.proofs.metrics_of.Reads as metrics-of-reads
-use Rattle.tables.proofs.record_fits.Reads as record-fits-reads
 
 -- src/lib.rt:63:8
 record-fits-requires : tie.Need-record-fits-requires

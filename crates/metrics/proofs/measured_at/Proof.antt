@@ -1,10 +1,6 @@
 use borrow.Author.Needs.{needs}
 use Rattle.metrics.proofs.measured_at.Statement.{statement}
 use Rattle.metrics.proofs.measured_at.Tie as tie
-use Rattle.metrics.proofs.measured_at.Reads as reads
-use Rattle.metrics.proofs.measured_at.Lts as lts
-use Rattle.tables.proofs.narrow_at.Reads as narrow-at-reads
-use Rattle.tables.proofs.wide_at.Reads as wide-at-reads
 
 -- src/lib.rt:37:9
 narrow-at-requires : tie.Need-narrow-at-requires

@@ -1,14 +1,10 @@
 use native.Mathlib.Omega.{arith}
 use native.Mathlib.Nat.{mul-le-mul}
-use borrow.Author.Tests.{lt-ltb, le-ltb, le-leb, lt-leb, eq-eqb, ne-eqb}
+use borrow.Author.Tests.{le-leb, lt-leb}
 use Rattle.metrics.specs.Measure.{metricsOf}
 use borrow.Author.Needs.{needs}
 use Rattle.metrics.proofs.metrics_of.Statement.{statement}
 use Rattle.metrics.proofs.metrics_of.Tie as tie
-use Rattle.metrics.proofs.metrics_of.Reads as reads
-use Rattle.metrics.proofs.metrics_of.Lts as lts
-use Rattle.metrics.proofs.measured_at.Reads as measured-at-reads
-use Rattle.tables.proofs.metric_bytes.Reads as metric-bytes-reads
 
 -- src/lib.rt:47:13
 cast-i : tie.Need-cast-i

@@ -6,8 +6,6 @@ use Rattle.names.specs.Strings.{zeroFrom}
 use Rattle.names.proofs.Zeros.{zero-here, zero-more, zero-none}
 use Rattle.names.proofs.find_end.Statement.{statement}
 use Rattle.names.proofs.find_end.Tie as tie
-use Rattle.names.proofs.find_end.Reads as reads
-use Rattle.names.proofs.find_end.Lts as lts
 
 abbrev Inv-loop : tie.InvT-loop
 Inv-loop s at left k₀ k = (k ≤ left) × (zeroFrom s at (left - k) k ≡ zeroFrom s at left 0)

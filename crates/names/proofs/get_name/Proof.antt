@@ -1,12 +1,7 @@
-use borrow.Author.Tests.{lt-ltb, le-ltb, le-leb, lt-leb, eq-eqb, ne-eqb}
 use Rattle.names.specs.Names.{getName}
 use borrow.Author.Needs.{needs}
 use Rattle.names.proofs.get_name.Statement.{statement}
 use Rattle.names.proofs.get_name.Tie as tie
-use Rattle.names.proofs.get_name.Reads as reads
-use Rattle.names.proofs.get_name.Lts as lts
-use Rattle.names.proofs.name_of.Reads as name-of-reads
-use Rattle.tables.proofs.record_fits.Reads as record-fits-reads
 
 -- src/lib.rt:97:8
 record-fits-requires : tie.Need-record-fits-requires

@@ -1,10 +1,6 @@
 use borrow.Author.Needs.{needs}
 use Rattle.names.proofs.name_bytes.Statement.{statement}
 use Rattle.names.proofs.name_bytes.Tie as tie
-use Rattle.names.proofs.name_bytes.Reads as reads
-use Rattle.names.proofs.name_bytes.Lts as lts
-use Rattle.names.proofs.get_name.Reads as get-name-reads
-use Rattle.names.proofs.part_of.Reads as part-of-reads
 
 -- src/lib.rt:126:11
 get-name-requires : tie.Need-get-name-requires

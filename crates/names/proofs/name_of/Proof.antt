@@ -1,12 +1,8 @@
-use borrow.Author.Tests.{lt-ltb, le-ltb, le-leb, lt-leb, eq-eqb, ne-eqb}
+use borrow.Author.Tests.{le-leb, lt-leb}
 use Rattle.names.specs.Names.{nameOf}
 use borrow.Author.Needs.{needs}
 use Rattle.names.proofs.name_of.Statement.{statement}
 use Rattle.names.proofs.name_of.Tie as tie
-use Rattle.names.proofs.name_of.Reads as reads
-use Rattle.names.proofs.name_of.Lts as lts
-use Rattle.names.proofs.string_at.Reads as string-at-reads
-use Rattle.reads.proofs.u32_at.Reads as u32-at-reads
 
 -- src/lib.rt:81:13
 cast-i : tie.Need-cast-i

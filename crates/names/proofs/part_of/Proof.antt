@@ -4,8 +4,6 @@ use Rattle.names.proofs.Parts.{part-past, part-cut}
 use borrow.Author.Needs.{needs}
 use Rattle.names.proofs.part_of.Statement.{statement}
 use Rattle.names.proofs.part_of.Tie as tie
-use Rattle.names.proofs.part_of.Reads as reads
-use Rattle.names.proofs.part_of.Lts as lts
 
 -- src/lib.rt:114:9
 slice-aggregate-result : tie.Need-slice-aggregate-result

@@ -2,16 +2,11 @@ use native.Mathlib.Omega.{arith}
 use mathlib.Core.Path.{sym, _∙_}
 use Prim.Native.Nat.{_+_}
 use lib.ListN.{length}
-use borrow.Author.Tests.{leb-true}
-use borrow.Author.Tests.{lt-ltb, le-ltb, le-leb, lt-leb, eq-eqb, ne-eqb}
+use borrow.Author.Tests.{leb-true, lt-ltb, le-ltb}
 use Rattle.names.specs.Strings.{stringAt}
 use borrow.Author.Needs.{needs}
 use Rattle.names.proofs.string_at.Statement.{statement}
 use Rattle.names.proofs.string_at.Tie as tie
-use Rattle.names.proofs.string_at.Reads as reads
-use Rattle.names.proofs.string_at.Lts as lts
-use Rattle.names.proofs.find_end.Reads as find-end-reads
-use Rattle.tables.proofs.is_inside.Reads as is-inside-reads
 
 -- src/lib.rt:53:8
 is-inside-requires : tie.Need-is-inside-requires

@@ -1,12 +1,7 @@
-use borrow.Author.Tests.{lt-ltb, le-ltb, le-leb, lt-leb, eq-eqb, ne-eqb}
 use Rattle.props.specs.Props.{propAt}
 use borrow.Author.Needs.{needs}
 use Rattle.props.proofs.prop_at.Statement.{statement}
 use Rattle.props.proofs.prop_at.Tie as tie
-use Rattle.props.proofs.prop_at.Reads as reads
-use Rattle.props.proofs.prop_at.Lts as lts
-use Rattle.props.proofs.prop_of.Reads as prop-of-reads
-use Rattle.tables.proofs.record_fits.Reads as record-fits-reads
 
 -- src/lib.rt:76:8
 record-fits-requires : tie.Need-record-fits-requires

@@ -1,19 +1,11 @@
 use Prim.Native.Nat.{_+_, _*_}
 use native.Mathlib.Nat.{add-zero, zero-lt-suc}
 use borrow.Author.Tests.{le-leb, lt-leb, eq-eqb, ne-eqb}
-use mathlib.Core.Path.{_∙_, _≡_}
-use Rattle.reads.specs.Num.{byteAt, u32At}
 use Rattle.reads.proofs.Past.{byte-reach, number-reach}
 use Rattle.props.specs.Props.{propOf}
 use borrow.Author.Needs.{needs}
 use Rattle.props.proofs.prop_of.Statement.{statement}
 use Rattle.props.proofs.prop_of.Tie as tie
-use Rattle.props.proofs.prop_of.Reads as reads
-use Rattle.props.proofs.prop_of.Lts as lts
-use Rattle.props.proofs.prop_string.Reads as prop-string-reads
-use Rattle.reads.proofs.byte_at.Reads as byte-at-reads
-use Rattle.reads.proofs.reach.Reads as reach-reads
-use Rattle.reads.proofs.u32_at.Reads as u32-at-reads
 
 -- src/lib.rt:41:9
 returns : tie.Need-returns

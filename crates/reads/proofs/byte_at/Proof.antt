@@ -7,9 +7,6 @@ use Rattle.reads.proofs.Past.{byte-past}
 use borrow.Author.Needs.{needs}
 use Rattle.reads.proofs.byte_at.Statement.{statement}
 use Rattle.reads.proofs.byte_at.Tie as tie
-use Rattle.reads.proofs.byte_at.Reads as reads
-use Rattle.reads.proofs.byte_at.Lts as lts
-use Rattle.reads.proofs.lies_in.Reads as lies-in-reads
 
 -- src/lib.rt:91:8
 lies-in-requires : tie.Need-lies-in-requires

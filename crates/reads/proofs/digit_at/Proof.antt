@@ -1,9 +1,6 @@
 use borrow.Author.Needs.{needs}
 use Rattle.reads.proofs.digit_at.Statement.{statement}
 use Rattle.reads.proofs.digit_at.Tie as tie
-use Rattle.reads.proofs.digit_at.Reads as reads
-use Rattle.reads.proofs.digit_at.Lts as lts
-use Rattle.reads.proofs.wide.Reads as wide-reads
 
 -- src/lib.rt:39:16
 add-wide : tie.Need-add-wide

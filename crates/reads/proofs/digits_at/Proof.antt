@@ -6,9 +6,6 @@ use Prim.Native.Nat.{_≤_, _<_, _^_, _-_}
 use native.Mathlib.Omega.{arith}
 use Rattle.reads.proofs.digits_at.Statement.{statement}
 use Rattle.reads.proofs.digits_at.Tie as tie
-use Rattle.reads.proofs.digits_at.Reads as reads
-use Rattle.reads.proofs.digits_at.Lts as lts
-use Rattle.reads.proofs.digit_at.Reads as digit-at-reads
 
 abbrev Inv-loop : tie.InvT-loop
 Inv-loop s at width big n₀ i₀ n i = (i ≤ width) × ((n ≡ digits (digitAt big width s at) i) × (n < 256 ^ i))

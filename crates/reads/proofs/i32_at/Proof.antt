@@ -5,9 +5,6 @@ use mathlib.Core.Path.{_∙_, ap}
 use borrow.Author.Needs.{needs}
 use Rattle.reads.proofs.i32_at.Statement.{statement}
 use Rattle.reads.proofs.i32_at.Tie as tie
-use Rattle.reads.proofs.i32_at.Reads as reads
-use Rattle.reads.proofs.i32_at.Lts as lts
-use Rattle.reads.proofs.number_at.Reads as number-at-reads
 
 -- src/lib.rt:129:9
 number-at-requires : tie.Need-number-at-requires

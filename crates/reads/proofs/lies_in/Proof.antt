@@ -6,8 +6,6 @@ use Rattle.reads.proofs.Tests.{same-leb}
 use borrow.Author.Needs.{needs}
 use Rattle.reads.proofs.lies_in.Statement.{statement}
 use Rattle.reads.proofs.lies_in.Tie as tie
-use Rattle.reads.proofs.lies_in.Reads as reads
-use Rattle.reads.proofs.lies_in.Lts as lts
 
 -- src/lib.rt:67:9
 returns : tie.Need-returns

@@ -3,8 +3,6 @@ use mir.Facts.{toZ-ofZ}
 use borrow.Author.Needs.{needs}
 use Rattle.reads.proofs.metric_of.Statement.{statement}
 use Rattle.reads.proofs.metric_of.Tie as tie
-use Rattle.reads.proofs.metric_of.Reads as reads
-use Rattle.reads.proofs.metric_of.Lts as lts
 
 -- src/lib.rt:142:6
 cast-result : tie.Need-cast-result

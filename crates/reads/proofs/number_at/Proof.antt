@@ -8,10 +8,6 @@ use Rattle.reads.specs.Num.{numAt}
 use borrow.Author.Needs.{needs}
 use Rattle.reads.proofs.number_at.Statement.{statement}
 use Rattle.reads.proofs.number_at.Tie as tie
-use Rattle.reads.proofs.number_at.Reads as reads
-use Rattle.reads.proofs.number_at.Lts as lts
-use Rattle.reads.proofs.digits_at.Reads as digits-at-reads
-use Rattle.reads.proofs.lies_in.Reads as lies-in-reads
 
 -- src/lib.rt:80:8
 lies-in-requires : tie.Need-lies-in-requires

@@ -5,9 +5,6 @@ use borrow.Author.Tests.{leb-true, leb-false}
 use borrow.Author.Needs.{needs}
 use Rattle.reads.proofs.reach.Statement.{statement}
 use Rattle.reads.proofs.reach.Tie as tie
-use Rattle.reads.proofs.reach.Reads as reads
-use Rattle.reads.proofs.reach.Lts as lts
-use Rattle.reads.proofs.lies_in.Reads as lies-in-reads
 
 -- src/lib.rt:150:8
 lies-in-requires : tie.Need-lies-in-requires

@@ -1,11 +1,7 @@
-use borrow.Author.Tests.{lt-ltb, le-ltb, le-leb, lt-leb, eq-eqb, ne-eqb}
 use Rattle.load.specs.Gather.{finished}
 use borrow.Author.Needs.{needs}
 use Rattle.load.proofs.gather.finish.Statement.{statement}
 use Rattle.load.proofs.gather.finish.Tie as tie
-use Rattle.load.proofs.gather.finish.Reads as reads
-use Rattle.load.proofs.gather.finish.Lts as lts
-use Rattle.load.proofs.gather.all_six.Reads as all-six-reads
 
 -- src/gather.rt:238:8
 all-six-requires : tie.Need-all-six-requires

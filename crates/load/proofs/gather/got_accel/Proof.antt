@@ -1,8 +1,6 @@
 use borrow.Author.Needs.{needs}
 use Rattle.load.proofs.gather.got_accel.Statement.{statement}
 use Rattle.load.proofs.gather.got_accel.Tie as tie
-use Rattle.load.proofs.gather.got_accel.Reads as reads
-use Rattle.load.proofs.gather.got_accel.Lts as lts
 
 -- src/gather.rt:142:32
 enum-known-got : tie.Need-enum-known-got

@@ -1,8 +1,6 @@
 use borrow.Author.Needs.{needs}
 use Rattle.load.proofs.gather.got_bitmaps.Statement.{statement}
 use Rattle.load.proofs.gather.got_bitmaps.Tie as tie
-use Rattle.load.proofs.gather.got_bitmaps.Reads as reads
-use Rattle.load.proofs.gather.got_bitmaps.Lts as lts
 
 -- src/gather.rt:178:27
 enum-known-got : tie.Need-enum-known-got

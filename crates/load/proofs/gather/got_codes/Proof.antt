@@ -1,8 +1,6 @@
 use borrow.Author.Needs.{needs}
 use Rattle.load.proofs.gather.got_codes.Statement.{statement}
 use Rattle.load.proofs.gather.got_codes.Tie as tie
-use Rattle.load.proofs.gather.got_codes.Reads as reads
-use Rattle.load.proofs.gather.got_codes.Lts as lts
 
 -- src/gather.rt:196:29
 enum-known-got : tie.Need-enum-known-got

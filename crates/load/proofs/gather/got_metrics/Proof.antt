@@ -1,8 +1,6 @@
 use borrow.Author.Needs.{needs}
 use Rattle.load.proofs.gather.got_metrics.Statement.{statement}
 use Rattle.load.proofs.gather.got_metrics.Tie as tie
-use Rattle.load.proofs.gather.got_metrics.Reads as reads
-use Rattle.load.proofs.gather.got_metrics.Lts as lts
 
 -- src/gather.rt:160:28
 enum-known-got : tie.Need-enum-known-got

@@ -1,8 +1,6 @@
 use borrow.Author.Needs.{needs}
 use Rattle.load.proofs.gather.got_names.Statement.{statement}
 use Rattle.load.proofs.gather.got_names.Tie as tie
-use Rattle.load.proofs.gather.got_names.Reads as reads
-use Rattle.load.proofs.gather.got_names.Lts as lts
 
 -- src/gather.rt:214:30
 enum-known-got : tie.Need-enum-known-got

@@ -1,8 +1,6 @@
 use borrow.Author.Needs.{needs}
 use Rattle.load.proofs.gather.got_props.Statement.{statement}
 use Rattle.load.proofs.gather.got_props.Tie as tie
-use Rattle.load.proofs.gather.got_props.Reads as reads
-use Rattle.load.proofs.gather.got_props.Lts as lts
 
 -- src/gather.rt:124:31
 enum-known-got : tie.Need-enum-known-got

@@ -1,10 +1,6 @@
-use borrow.Author.Tests.{lt-ltb, le-ltb, le-leb, lt-leb, eq-eqb, ne-eqb}
 use borrow.Author.Needs.{needs}
 use Rattle.load.proofs.gather.no_accelerators.Statement.{statement}
 use Rattle.load.proofs.gather.no_accelerators.Tie as tie
-use Rattle.load.proofs.gather.no_accelerators.Reads as reads
-use Rattle.load.proofs.gather.no_accelerators.Lts as lts
-use Rattle.load.proofs.gather.no_metrics.Reads as no-metrics-reads
 
 -- src/gather.rt:41:9
 no-metrics-requires : tie.Need-no-metrics-requires

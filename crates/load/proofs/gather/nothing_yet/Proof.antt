@@ -1,9 +1,6 @@
 use borrow.Author.Needs.{needs}
 use Rattle.load.proofs.gather.nothing_yet.Statement.{statement}
 use Rattle.load.proofs.gather.nothing_yet.Tie as tie
-use Rattle.load.proofs.gather.nothing_yet.Reads as reads
-use Rattle.load.proofs.gather.nothing_yet.Lts as lts
-use Rattle.load.proofs.gather.no_accelerators.Reads as no-accelerators-reads
 
 -- src/gather.rt:65:9
 no-accelerators-requires : tie.Need-no-accelerators-requires

@@ -4,11 +4,6 @@ use Rattle.place.specs.Bounds.{boundsHold}
 use borrow.Author.Needs.{needs}
 use Rattle.place.proofs.bounds.bounds_hold.Statement.{statement}
 use Rattle.place.proofs.bounds.bounds_hold.Tie as tie
-use Rattle.place.proofs.bounds.bounds_hold.Reads as reads
-use Rattle.place.proofs.bounds.bounds_hold.Lts as lts
-use Rattle.place.proofs.bounds.height_of.Reads as height-of-reads
-use Rattle.place.proofs.bounds.in_range.Reads as in-range-reads
-use Rattle.place.proofs.bounds.is_natural.Reads as is-natural-reads
 
 -- src/bounds.rt:42:5
 is-natural-requires : tie.Need-is-natural-requires

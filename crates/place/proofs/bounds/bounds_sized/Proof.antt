@@ -6,12 +6,6 @@ use Rattle.place.proofs.Held.{held}
 use borrow.Author.Needs.{needs}
 use Rattle.place.proofs.bounds.bounds_sized.Statement.{statement}
 use Rattle.place.proofs.bounds.bounds_sized.Tie as tie
-use Rattle.place.proofs.bounds.bounds_sized.Reads as reads
-use Rattle.place.proofs.bounds.bounds_sized.Lts as lts
-use Rattle.place.proofs.bounds.bounds_hold.Reads as bounds-hold-reads
-use Rattle.place.proofs.bounds.height_of.Reads as height-of-reads
-use Rattle.place.proofs.bounds.natural_i16.Reads as natural-i16-reads
-use Rattle.place.proofs.bounds.natural_i32.Reads as natural-i32-reads
 
 -- src/bounds.rt:63:8
 bounds-hold-requires : tie.Need-bounds-hold-requires

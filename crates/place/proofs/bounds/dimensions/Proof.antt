@@ -1,12 +1,7 @@
-use borrow.Author.Tests.{lt-ltb, le-ltb, le-leb, lt-leb, eq-eqb, ne-eqb}
 use Rattle.place.specs.Bounds.{dimensions}
 use borrow.Author.Needs.{needs}
 use Rattle.place.proofs.bounds.dimensions.Statement.{statement}
 use Rattle.place.proofs.bounds.dimensions.Tie as tie
-use Rattle.place.proofs.bounds.dimensions.Reads as reads
-use Rattle.place.proofs.bounds.dimensions.Lts as lts
-use Rattle.place.proofs.bounds.bounds_sized.Reads as bounds-sized-reads
-use Rattle.tables.proofs.record_fits.Reads as record-fits-reads
 
 -- src/bounds.rt:80:8
 record-fits-requires : tie.Need-record-fits-requires

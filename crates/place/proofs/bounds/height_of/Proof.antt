@@ -1,12 +1,8 @@
 use mir.Syntax.{w16, w32}
-use mathlib.Core.Path.{_∙_}
 use Rattle.reads.proofs.Signed.{back}
 use borrow.Author.Needs.{needs}
 use Rattle.place.proofs.bounds.height_of.Statement.{statement}
 use Rattle.place.proofs.bounds.height_of.Tie as tie
-use Rattle.place.proofs.bounds.height_of.Reads as reads
-use Rattle.place.proofs.bounds.height_of.Lts as lts
-use Rattle.place.proofs.bounds.sum_of.Reads as sum-of-reads
 
 -- src/bounds.rt:36:5
 sum-of-requires : tie.Need-sum-of-requires

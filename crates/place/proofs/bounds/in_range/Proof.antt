@@ -3,8 +3,6 @@ use mir.Facts.{toZ-ofZ}
 use Rattle.place.proofs.Whole.{from-zero}
 use Rattle.place.proofs.bounds.in_range.Statement.{statement}
 use Rattle.place.proofs.bounds.in_range.Tie as tie
-use Rattle.place.proofs.bounds.in_range.Reads as reads
-use Rattle.place.proofs.bounds.in_range.Lts as lts
 
 -- src/bounds.rt:26:1
 returns : tie.Need-returns

@@ -3,8 +3,6 @@ use mir.Facts.{toZ-ofZ}
 use Rattle.place.proofs.Whole.{from-zero}
 use Rattle.place.proofs.bounds.is_natural.Statement.{statement}
 use Rattle.place.proofs.bounds.is_natural.Tie as tie
-use Rattle.place.proofs.bounds.is_natural.Reads as reads
-use Rattle.place.proofs.bounds.is_natural.Lts as lts
 
 -- src/bounds.rt:14:1
 returns : tie.Need-returns

@@ -3,8 +3,6 @@ use mir.Facts.{toZ-ofZ, fits-natAbs}
 use borrow.Author.Needs.{needs}
 use Rattle.place.proofs.bounds.natural_i16.Statement.{statement}
 use Rattle.place.proofs.bounds.natural_i16.Tie as tie
-use Rattle.place.proofs.bounds.natural_i16.Reads as reads
-use Rattle.place.proofs.bounds.natural_i16.Lts as lts
 
 -- src/bounds.rt:49:5
 cast-result : tie.Need-cast-result

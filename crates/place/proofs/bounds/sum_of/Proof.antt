@@ -4,8 +4,6 @@ use lib.IntN.{_+ℤ_}
 use Rattle.place.proofs.Whole.{sum-fits}
 use Rattle.place.proofs.bounds.sum_of.Statement.{statement}
 use Rattle.place.proofs.bounds.sum_of.Tie as tie
-use Rattle.place.proofs.bounds.sum_of.Reads as reads
-use Rattle.place.proofs.bounds.sum_of.Lts as lts
 
 -- src/bounds.rt:23:6
 cast-result : tie.Need-cast-result

@@ -1,11 +1,8 @@
-use borrow.Author.Tests.{lt-ltb, le-ltb, le-leb, lt-leb, eq-eqb, ne-eqb}
+use borrow.Author.Tests.{lt-ltb, le-ltb}
 use Rattle.tables.specs.Accelerators.{acceleratorsAt}
 use borrow.Author.Needs.{needs}
 use Rattle.tables.proofs.accelerator_table.accelerators_at.Statement.{statement}
 use Rattle.tables.proofs.accelerator_table.accelerators_at.Tie as tie
-use Rattle.tables.proofs.accelerator_table.accelerators_at.Reads as reads
-use Rattle.tables.proofs.accelerator_table.accelerators_at.Lts as lts
-use Rattle.tables.proofs.accelerator_table.accelerators_table.Reads as accelerators-table-reads
 
 -- src/accelerator_table.rt:54:14
 add-if1 : tie.Need-add-if1

@@ -1,17 +1,9 @@
-use borrow.Author.Tests.{lt-ltb, le-ltb, le-leb, lt-leb, eq-eqb, ne-eqb}
 use Rattle.tables.specs.Accelerators.{acceleratorsTable}
 use Rattle.reads.proofs.Signed.{back}
 use mir.Syntax.{w32}
 use borrow.Author.Needs.{needs}
 use Rattle.tables.proofs.accelerator_table.accelerators_table.Statement.{statement}
 use Rattle.tables.proofs.accelerator_table.accelerators_table.Tie as tie
-use Rattle.tables.proofs.accelerator_table.accelerators_table.Reads as reads
-use Rattle.tables.proofs.accelerator_table.accelerators_table.Lts as lts
-use Rattle.reads.proofs.byte_at.Reads as byte-at-reads
-use Rattle.reads.proofs.i32_at.Reads as i32-at-reads
-use Rattle.tables.proofs.format.big_bit.Reads as big-bit-reads
-use Rattle.tables.proofs.format.format_at.Reads as format-at-reads
-use Rattle.tables.proofs.measures.wide_at.Reads as wide-at-reads
 
 -- src/accelerator_table.rt:16:9
 format-at-requires : tie.Need-format-at-requires

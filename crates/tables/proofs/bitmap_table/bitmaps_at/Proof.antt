@@ -1,17 +1,8 @@
-use borrow.Author.Tests.{lt-ltb, le-ltb, le-leb, lt-leb, eq-eqb, ne-eqb}
+use borrow.Author.Tests.{lt-ltb, le-ltb}
 use Rattle.tables.specs.Bitmaps.{bitmapsAt, bitmapsTable}
 use borrow.Author.Needs.{needs}
 use Rattle.tables.proofs.bitmap_table.bitmaps_at.Statement.{statement}
 use Rattle.tables.proofs.bitmap_table.bitmaps_at.Tie as tie
-use Rattle.tables.proofs.bitmap_table.bitmaps_at.Reads as reads
-use Rattle.tables.proofs.bitmap_table.bitmaps_at.Lts as lts
-use Rattle.reads.proofs.u32_at.Reads as u32-at-reads
-use Rattle.tables.proofs.format.big_bit.Reads as big-bit-reads
-use Rattle.tables.proofs.format.format_at.Reads as format-at-reads
-use Rattle.tables.proofs.format.pad_code.Reads as pad-code-reads
-use Rattle.tables.proofs.format.pad_of.Reads as pad-of-reads
-use Rattle.tables.proofs.format.top_bit.Reads as top-bit-reads
-use Rattle.tables.proofs.format.unit_code.Reads as unit-code-reads
 
 -- src/bitmap_table.rt:19:9
 format-at-requires : tie.Need-format-at-requires

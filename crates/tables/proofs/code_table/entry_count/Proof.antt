@@ -4,9 +4,6 @@ use native.Mathlib.Nat.{mul-le-mul}
 use borrow.Author.Needs.{needs}
 use Rattle.tables.proofs.code_table.entry_count.Statement.{statement}
 use Rattle.tables.proofs.code_table.entry_count.Tie as tie
-use Rattle.tables.proofs.code_table.entry_count.Reads as reads
-use Rattle.tables.proofs.code_table.entry_count.Lts as lts
-use Rattle.tables.proofs.code_table.span_of.Reads as span-of-reads
 
 -- src/code_table.rt:27:5
 span-of-requires : tie.Need-span-of-requires

@@ -1,12 +1,7 @@
-use borrow.Author.Tests.{lt-ltb, le-ltb, le-leb, lt-leb, eq-eqb, ne-eqb}
 use Rattle.tables.specs.Fits.{bitmapsFit}
 use borrow.Author.Needs.{needs}
 use Rattle.tables.proofs.fits.bitmaps_fit.Statement.{statement}
 use Rattle.tables.proofs.fits.bitmaps_fit.Tie as tie
-use Rattle.tables.proofs.fits.bitmaps_fit.Reads as reads
-use Rattle.tables.proofs.fits.bitmaps_fit.Lts as lts
-use Rattle.tables.proofs.fits.is_inside.Reads as is-inside-reads
-use Rattle.tables.proofs.fits.pad_fits.Reads as pad-fits-reads
 
 -- src/fits.rt:45:36
 cast-is-inside : tie.Need-cast-is-inside

@@ -1,12 +1,7 @@
-use borrow.Author.Tests.{lt-ltb, le-ltb, le-leb, lt-leb, eq-eqb, ne-eqb}
 use Rattle.tables.specs.Fits.{codesFit}
 use borrow.Author.Needs.{needs}
 use Rattle.tables.proofs.fits.codes_fit.Statement.{statement}
 use Rattle.tables.proofs.fits.codes_fit.Tie as tie
-use Rattle.tables.proofs.fits.codes_fit.Reads as reads
-use Rattle.tables.proofs.fits.codes_fit.Lts as lts
-use Rattle.tables.proofs.code_table.entry_count.Reads as entry-count-reads
-use Rattle.tables.proofs.fits.is_inside.Reads as is-inside-reads
 
 -- src/fits.rt:51:9
 is-inside-requires : tie.Need-is-inside-requires

@@ -5,8 +5,6 @@ use borrow.Author.Tests.{lt-leb}
 use Rattle.reads.proofs.Tests.{same-leb}
 use Rattle.tables.proofs.fits.is_inside.Statement.{statement}
 use Rattle.tables.proofs.fits.is_inside.Tie as tie
-use Rattle.tables.proofs.fits.is_inside.Reads as reads
-use Rattle.tables.proofs.fits.is_inside.Lts as lts
 
 -- src/fits.rt:19:9
 returns : tie.Need-returns

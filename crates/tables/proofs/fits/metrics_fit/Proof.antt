@@ -1,14 +1,9 @@
 use native.Mathlib.Omega.{arith}
 use native.Mathlib.Nat.{mul-le-mul}
-use borrow.Author.Tests.{lt-ltb, le-ltb, le-leb, lt-leb, eq-eqb, ne-eqb}
 use Rattle.tables.specs.Fits.{metricsFit}
 use borrow.Author.Needs.{needs}
 use Rattle.tables.proofs.fits.metrics_fit.Statement.{statement}
 use Rattle.tables.proofs.fits.metrics_fit.Tie as tie
-use Rattle.tables.proofs.fits.metrics_fit.Reads as reads
-use Rattle.tables.proofs.fits.metrics_fit.Lts as lts
-use Rattle.tables.proofs.fits.is_inside.Reads as is-inside-reads
-use Rattle.tables.proofs.metrics_table.metric_bytes.Reads as metric-bytes-reads
 
 -- src/fits.rt:33:31
 metric-bytes-requires : tie.Need-metric-bytes-requires

@@ -1,11 +1,7 @@
-use borrow.Author.Tests.{lt-ltb, le-ltb, le-leb, lt-leb, eq-eqb, ne-eqb}
 use Rattle.tables.specs.Fits.{namesFit}
 use borrow.Author.Needs.{needs}
 use Rattle.tables.proofs.fits.names_fit.Statement.{statement}
 use Rattle.tables.proofs.fits.names_fit.Tie as tie
-use Rattle.tables.proofs.fits.names_fit.Reads as reads
-use Rattle.tables.proofs.fits.names_fit.Lts as lts
-use Rattle.tables.proofs.fits.is_inside.Reads as is-inside-reads
 
 -- src/fits.rt:59:36
 cast-is-inside : tie.Need-cast-is-inside

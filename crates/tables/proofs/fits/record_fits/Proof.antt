@@ -1,15 +1,7 @@
-use borrow.Author.Tests.{lt-ltb, le-ltb, le-leb, lt-leb, eq-eqb, ne-eqb}
 use Rattle.tables.specs.Fits.{recordFits}
 use borrow.Author.Needs.{needs}
 use Rattle.tables.proofs.fits.record_fits.Statement.{statement}
 use Rattle.tables.proofs.fits.record_fits.Tie as tie
-use Rattle.tables.proofs.fits.record_fits.Reads as reads
-use Rattle.tables.proofs.fits.record_fits.Lts as lts
-use Rattle.tables.proofs.fits.bitmaps_fit.Reads as bitmaps-fit-reads
-use Rattle.tables.proofs.fits.codes_fit.Reads as codes-fit-reads
-use Rattle.tables.proofs.fits.metrics_fit.Reads as metrics-fit-reads
-use Rattle.tables.proofs.fits.names_fit.Reads as names-fit-reads
-use Rattle.tables.proofs.fits.props_fit.Reads as props-fit-reads
 
 -- src/fits.rt:67:5
 props-fit-requires : tie.Need-props-fit-requires

@@ -3,8 +3,6 @@ use Prim.Native.Nat.{_%_}
 use native.Mathlib.Omega.{arith}
 use Rattle.tables.proofs.format.pad_of.Statement.{statement}
 use Rattle.tables.proofs.format.pad_of.Tie as tie
-use Rattle.tables.proofs.format.pad_of.Reads as reads
-use Rattle.tables.proofs.format.pad_of.Lts as lts
 
 -- src/format.rt:48:9
 returns : tie.Need-returns

@@ -7,11 +7,6 @@ use Rattle.tables.specs.Metrics.{narrowAt}
 use borrow.Author.Needs.{needs}
 use Rattle.tables.proofs.measures.narrow_at.Statement.{statement}
 use Rattle.tables.proofs.measures.narrow_at.Tie as tie
-use Rattle.tables.proofs.measures.narrow_at.Reads as reads
-use Rattle.tables.proofs.measures.narrow_at.Lts as lts
-use Rattle.reads.proofs.byte_at.Reads as byte-at-reads
-use Rattle.reads.proofs.metric_of.Reads as metric-of-reads
-use Rattle.reads.proofs.reach.Reads as reach-reads
 
 -- src/measures.rt:37:9
 reach-requires : tie.Need-reach-requires

@@ -7,11 +7,6 @@ use Rattle.tables.specs.Metrics.{wideAt}
 use borrow.Author.Needs.{needs}
 use Rattle.tables.proofs.measures.wide_at.Statement.{statement}
 use Rattle.tables.proofs.measures.wide_at.Tie as tie
-use Rattle.tables.proofs.measures.wide_at.Reads as reads
-use Rattle.tables.proofs.measures.wide_at.Lts as lts
-use Rattle.reads.proofs.i16_at.Reads as i16-at-reads
-use Rattle.reads.proofs.reach.Reads as reach-reads
-use Rattle.reads.proofs.u16_at.Reads as u16-at-reads
 
 -- src/measures.rt:16:9
 reach-requires : tie.Need-reach-requires

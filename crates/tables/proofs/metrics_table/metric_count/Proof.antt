@@ -1,10 +1,6 @@
 use borrow.Author.Needs.{needs}
 use Rattle.tables.proofs.metrics_table.metric_count.Statement.{statement}
 use Rattle.tables.proofs.metrics_table.metric_count.Tie as tie
-use Rattle.tables.proofs.metrics_table.metric_count.Reads as reads
-use Rattle.tables.proofs.metrics_table.metric_count.Lts as lts
-use Rattle.reads.proofs.u16_at.Reads as u16-at-reads
-use Rattle.reads.proofs.u32_at.Reads as u32-at-reads
 
 -- src/metrics_table.rt:32:9
 u16-at-requires : tie.Need-u16-at-requires

@@ -1,17 +1,10 @@
 use native.Mathlib.Omega.{arith}
 use native.Mathlib.Nat.{mul-le-mul}
-use borrow.Author.Tests.{lt-ltb, le-ltb, le-leb, lt-leb, eq-eqb, ne-eqb}
+use borrow.Author.Tests.{lt-ltb, le-ltb}
 use Rattle.tables.specs.Metrics.{metricsAt, metricsTable}
 use borrow.Author.Needs.{needs}
 use Rattle.tables.proofs.metrics_table.metrics_at.Statement.{statement}
 use Rattle.tables.proofs.metrics_table.metrics_at.Tie as tie
-use Rattle.tables.proofs.metrics_table.metrics_at.Reads as reads
-use Rattle.tables.proofs.metrics_table.metrics_at.Lts as lts
-use Rattle.tables.proofs.format.big_bit.Reads as big-bit-reads
-use Rattle.tables.proofs.format.compressed_bit.Reads as compressed-bit-reads
-use Rattle.tables.proofs.metrics_table.metric_bytes.Reads as metric-bytes-reads
-use Rattle.tables.proofs.metrics_table.metric_count.Reads as metric-count-reads
-use Rattle.tables.proofs.metrics_table.metrics_from.Reads as metrics-from-reads
 
 -- src/metrics_table.rt:44:9
 big-bit-requires : tie.Need-big-bit-requires

@@ -1,13 +1,8 @@
-use borrow.Author.Tests.{lt-ltb, le-ltb, le-leb, lt-leb, eq-eqb, ne-eqb}
+use borrow.Author.Tests.{lt-ltb, le-ltb}
 use Rattle.tables.specs.Names.{namesAt, namesTable}
 use borrow.Author.Needs.{needs}
 use Rattle.tables.proofs.name_table.names_at.Statement.{statement}
 use Rattle.tables.proofs.name_table.names_at.Tie as tie
-use Rattle.tables.proofs.name_table.names_at.Reads as reads
-use Rattle.tables.proofs.name_table.names_at.Lts as lts
-use Rattle.reads.proofs.u32_at.Reads as u32-at-reads
-use Rattle.tables.proofs.format.big_bit.Reads as big-bit-reads
-use Rattle.tables.proofs.format.format_at.Reads as format-at-reads
 
 -- src/name_table.rt:15:23
 format-at-requires : tie.Need-format-at-requires

@@ -1,14 +1,8 @@
-use borrow.Author.Tests.{lt-ltb, le-ltb, le-leb, lt-leb, eq-eqb, ne-eqb}
+use borrow.Author.Tests.{lt-ltb, le-ltb}
 use Rattle.tables.specs.Properties.{propertiesAt, propertiesTable}
 use borrow.Author.Needs.{needs}
 use Rattle.tables.proofs.property_table.properties_at.Statement.{statement}
 use Rattle.tables.proofs.property_table.properties_at.Tie as tie
-use Rattle.tables.proofs.property_table.properties_at.Reads as reads
-use Rattle.tables.proofs.property_table.properties_at.Lts as lts
-use Rattle.reads.proofs.u32_at.Reads as u32-at-reads
-use Rattle.tables.proofs.format.big_bit.Reads as big-bit-reads
-use Rattle.tables.proofs.format.format_at.Reads as format-at-reads
-use Rattle.tables.proofs.property_table.padded_4.Reads as padded-4-reads
 
 -- src/property_table.rt:25:23
 format-at-requires : tie.Need-format-at-requires

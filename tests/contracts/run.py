@@ -1,0 +1,45 @@
+#!/usr/bin/env python3
+"""Every public function of the libraries has a contract on its answer and asks nothing of its caller,
+and crates/promises/proofs/Unique.antt says of each that its contract determines the answer. That the
+contracts and the theorems hold is for the prover; this only sees that none is missing."""
+import os
+import re
+import sys
+
+ROOT = os.path.dirname(os.path.dirname(os.path.dirname(os.path.abspath(__file__))))
+
+
+def public_functions():
+    """crate, name, and the text from the signature to the body, of each `pub fn` of a library"""
+    crates = os.path.join(ROOT, "crates")
+    for crate in sorted(os.listdir(crates)):
+        source = os.path.join(crates, crate, "src")
+        if not os.path.exists(os.path.join(source, "lib.rt")):
+            continue
+        for file in sorted(os.listdir(source)):
+            with open(os.path.join(source, file), encoding="utf-8") as f:
+                text = f.read()
+            for m in re.finditer(r"^pub (?:extern \"C\" )?fn (\w+)(.*?)^\{$", text, re.M | re.S):
+                yield crate, m[1], m[2]
+
+
+def main():
+    with open(os.path.join(ROOT, "crates", "promises", "proofs", "Unique.antt"), encoding="utf-8") as f:
+        unique = set(re.findall(r"^pub (\S+)-unique :", f.read(), re.M))
+    found, bad = set(), []
+    for crate, name, clauses in public_functions():
+        found.add(name.replace("_", "-"))
+        if re.search(r"^\s*requires\b", clauses, re.M):
+            bad.append(f"{crate}::{name} has a requires")
+        if not re.search(r"^\s*ensures\b", clauses, re.M):
+            bad.append(f"{crate}::{name} has no ensures")
+        if name.replace("_", "-") not in unique:
+            bad.append(f"{crate}::{name} has no theorem that its contract determines its answer")
+    bad += [f"{name}-unique is about no public function" for name in sorted(unique - found)]
+    for line in bad:
+        print(line)
+    print(f"contracts: {len(found)} public functions, {len(bad)} faults")
+    return 1 if bad else 0
+
+
+sys.exit(main())
