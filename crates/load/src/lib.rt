@@ -135,33 +135,33 @@ fn all_entries(s: &[u8], count: usize) -> Loaded
 // word, 3 over 64 directory entries, 4 a directory that runs past the file; then, entry by entry and
 // with the entry's number as the place, 5 an offset past the file, 6 a table that runs past its
 // bytes, 7 a code minimum above its maximum; then 8 a table missing. The place is 0 but for 5, 6, 7.
-pub fn load_pcf(s: &[u8]) -> Loaded
-    ensures { λ r. ⌜ r ≡ loaded (now (s .entry)) ⌝ }
+pub fn load_pcf(bytes: &[u8]) -> Loaded
+    ensures { λ r. ⌜ r ≡ loaded (now (bytes .entry)) ⌝ }
 {
-    if s.len() < 8 {
+    if bytes.len() < 8 {
         return Loaded::Refused(Refusal {
             number: 1,
             place: 0,
         });
     }
-    if u32_at(s, 0, 0, true) != 0x0166_6370 {
+    if u32_at(bytes, 0, 0, true) != 0x0166_6370 {
         return Loaded::Refused(Refusal {
             number: 2,
             place: 0,
         });
     }
-    let count = u32_at(s, 0, 4, false) as usize;
+    let count = u32_at(bytes, 0, 4, false) as usize;
     if 64 < count {
         return Loaded::Refused(Refusal {
             number: 3,
             place: 0,
         });
     }
-    if s.len() < 8 + 16 * count {
+    if bytes.len() < 8 + 16 * count {
         return Loaded::Refused(Refusal {
             number: 4,
             place: 0,
         });
     }
-    all_entries(s, count)
+    all_entries(bytes, count)
 }
