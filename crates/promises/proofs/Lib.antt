@@ -1,3 +1,4 @@
 mod ProvedCases
 mod DumpF
 mod Unique
+mod RecordTest

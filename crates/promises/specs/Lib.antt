@@ -3,3 +3,4 @@ pub mod FontF
 pub mod Seen
 pub mod Cases
 pub mod Unique
+pub mod SixExactly
