@@ -5,15 +5,15 @@ use borrow.Author.Needs.{needs}
 use Rattle.tables.proofs.fits.metrics_fit.Statement.{statement}
 use Rattle.tables.proofs.fits.metrics_fit.Tie as tie
 
--- src/fits.rt:33:31
+-- src/fits.rt:36:9
 metric-bytes-requires : tie.Need-metric-bytes-requires
 metric-bytes-requires c κs = search needs
 
--- src/fits.rt:33:61
+-- src/fits.rt:36:39
 cast-is-inside : tie.Need-cast-is-inside
 cast-is-inside c = search needs
 
--- src/fits.rt:33:31
+-- src/fits.rt:36:9
 mul-is-inside : tie.Need-mul-is-inside
 mul-is-inside c = omega (arith, mul-le-mul {n₁ = c .before .metric-bytes .result} {m₁ = c .before .before .args .m .count} {n₂ = 12} {m₂ = 4294967295} (c .before .metric-bytes .ensures .1) (search needs))
 
