@@ -1,7 +1,7 @@
 #!/usr/bin/env python3
 """Every public function of the libraries has a contract on its answer and asks nothing of its caller,
 and crates/promises/proofs/Unique.antt says of each that its contract determines the answer. That the
-contracts and the theorems hold is for the prover; this only sees that none is missing."""
+contracts and the theorems hold is for the prover; this sees that none is missing."""
 import os
 import re
 import sys
@@ -19,23 +19,33 @@ def public_functions():
         for file in sorted(os.listdir(source)):
             with open(os.path.join(source, file), encoding="utf-8") as f:
                 text = f.read()
-            for m in re.finditer(r"^pub (?:extern \"C\" )?fn (\w+)(.*?)^\{$", text, re.M | re.S):
+            for m in re.finditer(r'^ *pub (?:extern "C" )?fn (\w+)(.*?)\{$', text, re.M | re.S):
                 yield crate, m[1], m[2]
 
 
-def main():
+def fixed():
+    """(crate, name) of each function whose own contract, and no other, a theorem of Unique.antt is about"""
     with open(os.path.join(ROOT, "crates", "promises", "proofs", "Unique.antt"), encoding="utf-8") as f:
-        unique = set(re.findall(r"^pub (\S+)-unique :", f.read(), re.M))
-    found, bad = set(), []
+        text = f.read()
+    for crate, name, short in re.findall(r"^use Rattle·(\w+)\.proofs\.(\w+)\.Reads as (\S+)-reads$", text, re.M):
+        kinds = f"use Rattle.{crate}.proofs.{name}.Kinds as {short}-kinds"
+        s = re.escape(short)
+        theorem = rf"^pub {s}-unique : Fixes(Bytes)? \d+ {s}-kinds\.ps {s}-kinds\.r {s}-reads\.Post\b"
+        if kinds in text.split("\n") and re.search(theorem, text, re.M):
+            yield crate, name
+
+
+def main():
+    theorems, found, bad = set(fixed()), set(), []
     for crate, name, clauses in public_functions():
-        found.add(name.replace("_", "-"))
-        if re.search(r"^\s*requires\b", clauses, re.M):
+        found.add((crate, name))
+        if re.search(r"\brequires\b", clauses):
             bad.append(f"{crate}::{name} has a requires")
-        if not re.search(r"^\s*ensures\b", clauses, re.M):
+        if not re.search(r"\bensures\b", clauses):
             bad.append(f"{crate}::{name} has no ensures")
-        if name.replace("_", "-") not in unique:
+        if (crate, name) not in theorems:
             bad.append(f"{crate}::{name} has no theorem that its contract determines its answer")
-    bad += [f"{name}-unique is about no public function" for name in sorted(unique - found)]
+    bad += [f"{crate}::{name} has a theorem, but is no public function" for crate, name in sorted(theorems - found)]
     for line in bad:
         print(line)
     print(f"contracts: {len(found)} public functions, {len(bad)} faults")

@@ -1,3 +1,4 @@
 pub mod Entries
+pub mod LastServes
 mod TablesFit
 pub mod Serves

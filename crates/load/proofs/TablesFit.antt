@@ -114,7 +114,7 @@ module _ (s : List ℕ) (at end : ℕ) (in-file : end ≤ length s) where
   unfolding codesAt
   codes-read =
       let c = codesTable s at in
-      split (ltb end (at + 14)) (λ t. rw t tt)
+      split (ltb end (c .entries)) (λ t. rw t tt)
       (λ t. split (ltb (c .high2) (c .low2)) (λ u. rw (t, u) tt)
       (λ u. split (ltb (c .high1) (c .low1)) (λ v. rw (t, u, v) tt)
       (λ v. split (ltb end (codesEnd c)) (λ w. rw (t, u, v, w) tt)

@@ -20,7 +20,7 @@ use Rattle.load.specs.declared.Gathered.{Gathered}
 use Rattle.load.specs.declared.Entered.{Entered}
 use Rattle.load.specs.declared.Loaded.{Loaded}
 
--- a table of this type, with the directory's format, whose bytes run from `at` to `end`; an unknown type gives nothing
+-- a table of this type, with the directory's format, whose bytes run from `at` to `end`; an unknown type changes nothing
 unfoldable pub tableOf : List ℕ → Gathered → ℕ → ℕ → ℕ → ℕ → Entered
 tableOf s g kind format at end =
     cond (eqb kind 1) (gotProps g (propertiesAt s at end))

@@ -19,11 +19,11 @@ use tables::metrics_at;
 use tables::names_at;
 use tables::properties_at;
 ghost use mathlib.Core.Path.{_≡_};
-ghost use Prim.Native.Nat.{_+_, _*_, _≤_, _<_, min};
-ghost use lib.ListN.{length};
+ghost use Prim.Native.Nat.{_≤_, _<_, min};
 ghost use Rattle.load.specs.Gather.{nothing};
 ghost use Rattle.load.specs.Load.{tableOf, entryOf, entryAt, entriesFrom, loaded};
 
+// What loading a file gives: the font's record, to be used with the same bytes.
 pub enum Loaded {
     Font(Record),
     Refused(Refusal),
@@ -45,7 +45,7 @@ pub struct Gathered {
     pub kinds: Kinds,
 }
 
-// What one directory entry makes of it: more, or the refusal's number.
+// What the walk has after one more entry, or that entry's refusal number.
 pub enum Entered {
     Next(Gathered),
     Refused(u8),
@@ -57,8 +57,8 @@ fn lesser_of(a: usize, b: usize) -> usize
     if a <= b { a } else { b }
 }
 
-// A table of a type that the library reads, whose bytes run from `at` to `end`; any other type gives
-// nothing.
+// A table of a type that the library reads, whose bytes run from `at` to `end`; any other type
+// changes nothing.
 fn table_of(s: &[u8], g: Gathered, kind: u32, format: u32, at: u32, end: usize) -> Entered
     ensures { λ r. ⌜ r ≡ tableOf (now (s .entry)) g kind format at end ⌝ }
 {
@@ -131,10 +131,11 @@ fn all_entries(s: &[u8], count: usize) -> Loaded
     finish(g)
 }
 
-// The record of a font file, or the first trouble in this order: 1 under 8 bytes, 2 a wrong first
-// word, 3 over 64 directory entries, 4 a directory that runs past the file; then, entry by entry and
-// with the entry's number as the place, 5 an offset past the file, 6 a table that runs past its
-// bytes, 7 a code minimum above its maximum; then 8 a table missing. The place is 0 but for 5, 6, 7.
+// The record of a font file. Refused with the first of these: 1 under 8 bytes; 2 first four bytes not
+// 01 66 63 70; 3 over 64 directory entries; 4 a directory that runs past the file; then entry by
+// entry, with the entry's number from 0 as the place, 5 an offset past the file, 6 a known table that
+// runs past its bytes (in a code table 6 for its 14 bytes of header, 7 for a minimum above its
+// maximum, then 6 for its entries); then 8 a kind of table missing. The place is 0 but for 5, 6, 7.
 pub fn load_pcf(bytes: &[u8]) -> Loaded
     ensures { λ r. ⌜ r ≡ loaded (now (bytes .entry)) ⌝ }
 {

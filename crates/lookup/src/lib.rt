@@ -9,6 +9,7 @@ use tables::record_fits;
 ghost use mathlib.Core.Path.{_≡_};
 ghost use Rattle.lookup.specs.Lookup.{oneByte, slotWhole, slotBytes, slotOf, entryGlyph, glyphOf, getGlyph};
 
+// The glyph of a code.
 pub enum Found {
     Glyph(GlyphIndex),
     Refused(Refusal),
@@ -90,7 +91,7 @@ fn entry_glyph(g: u16) -> Found
     Found::Glyph(GlyphIndex(g))
 }
 
-// The glyph of a code in this table, or 9. The record has been tested.
+// The glyph of a code in this table, or 9. Does not test the record: bytes past the end read as 0.
 pub fn glyph_of(s: &[u8], codes: EncodingData, code: CharCode) -> Found
     ensures { λ r. ⌜ r ≡ glyphOf (now (s .entry)) codes (code .0) ⌝ }
 {
@@ -104,8 +105,9 @@ pub fn glyph_of(s: &[u8], codes: EncodingData, code: CharCode) -> Found
     }
 }
 
-// The glyph of a character code. 6 for a record that does not serve with these bytes, 9 where the
-// font has no glyph for the code.
+// The glyph of a character code. Refused, both with place 0: 6 for a record that fails its test with
+// these bytes (`tables::record_fits`), 9 where the font has no glyph for the code; it has none for
+// any code above 65,535.
 pub fn get_glyph(bytes: &[u8], rec: Record, code: CharCode) -> Found
     ensures { λ r. ⌜ r ≡ getGlyph (now (bytes .entry)) rec (code .0) ⌝ }
 {

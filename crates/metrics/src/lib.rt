@@ -13,11 +13,13 @@ ghost use mathlib.Core.Path.{_≡_};
 ghost use Prim.Native.Nat.{_+_};
 ghost use Rattle.metrics.specs.Measure.{measuredAt, metricsOf, getMetrics, getAccelerators};
 
+// The metrics of a glyph.
 pub enum Measured {
     Metrics(MetricsUnpacked),
     Refused(Refusal),
 }
 
+// What the font says of all its glyphs together.
 pub enum Accelerated {
     Accelerators(AcceleratorUnpacked),
     Refused(Refusal),
@@ -40,7 +42,7 @@ fn measured_at(
     }
 }
 
-// The metrics of a glyph in this table, or 10. The record has been tested.
+// The metrics of a glyph in this table, or 10. Does not test the record: bytes past the end read as 0.
 pub fn metrics_of(s: &[u8], m: MetricsData, g: GlyphIndex) -> Measured
     ensures { λ r. ⌜ r ≡ metricsOf (now (s .entry)) m (g .0) ⌝ }
 {
@@ -55,8 +57,9 @@ pub fn metrics_of(s: &[u8], m: MetricsData, g: GlyphIndex) -> Measured
     Measured::Metrics(measured_at(s, m.records, offset, m.compressed, m.big))
 }
 
-// A glyph's metrics. 6 for a record that does not serve with these bytes, 10 for a glyph at or above
-// the metrics count.
+// A glyph's metrics, whatever they are: 11 is for those who place it. Refused, both with place 0: 6
+// for a record that fails its test with these bytes (`tables::record_fits`), 10 for a glyph at or
+// above the metrics count.
 pub fn get_metrics(bytes: &[u8], rec: Record, glyph: GlyphIndex) -> Measured
     ensures { λ r. ⌜ r ≡ getMetrics (now (bytes .entry)) rec (glyph .0) ⌝ }
 {
@@ -70,8 +73,8 @@ pub fn get_metrics(bytes: &[u8], rec: Record, glyph: GlyphIndex) -> Measured
     }
 }
 
-// The accelerators, the bounds of all glyphs among them. 6 for a record that does not serve with
-// these bytes.
+// The accelerators, the bounds of all glyphs among them. Refused with 6, place 0, for a record that
+// fails its test with these bytes (`tables::record_fits`).
 pub fn get_accelerators(bytes: &[u8], rec: Record) -> Accelerated
     ensures { λ r. ⌜ r ≡ getAccelerators (now (bytes .entry)) rec ⌝ }
 {

@@ -1,2 +1,3 @@
 pub mod Zeros
 pub mod Parts
+pub mod EndsAtZero

@@ -1,15 +1,15 @@
 // Strings of a font, as parts of its own bytes, and the names of its glyphs.
+mod strings;
+
 use reads::GlyphIndex;
 use reads::Refusal;
 use reads::u32_at;
+pub use strings::part_of;
+pub use strings::string_at;
 use tables::GlyphNameData;
 use tables::Record;
-use tables::is_inside;
 use tables::record_fits;
 ghost use mathlib.Core.Path.{_≡_};
-ghost use Prim.Native.Nat.{_+_, _≤_};
-ghost use lib.ListN.{length};
-ghost use Rattle.names.specs.Strings.{zeroFrom, stringAt, partOf};
 ghost use Rattle.names.specs.Names.{nameOf, getName, nameBytes};
 
 // A part of the font's bytes: `len` of them from `start` on.
@@ -19,6 +19,7 @@ pub struct Span {
     pub len: usize,
 }
 
+// Where a name, or another string of the font, stands in its bytes.
 pub enum Named {
     Name(Span),
     Refused(Refusal),
@@ -30,51 +31,7 @@ pub enum Zero {
     Nothing,
 }
 
-// How many of the `left` bytes from `at` on stand before the first zero byte.
-fn find_end(s: &[u8], at: usize, left: usize) -> Zero
-    requires { ⌜ at + left ≤ length (now s) ⌝ }
-    ensures { λ r. ⌜ r ≡ zeroFrom (now (s .entry)) at left 0 ⌝ }
-{
-    let mut k: usize = 0;
-    while k < left {
-        if s[at + k] == 0 {
-            return Zero::After(k);
-        }
-        k += 1;
-    }
-    Zero::Nothing
-}
-
-// The string that starts `from` bytes into the string data, which is `size` bytes from `strings` on:
-// 6 where the string data does not lie in the bytes, 18 for a start beyond it or no zero byte.
-pub fn string_at(s: &[u8], strings: usize, size: usize, from: usize) -> Named
-    ensures { λ r. ⌜ r ≡ stringAt (now (s .entry)) strings size from ⌝ }
-{
-    if is_inside(s.len(), strings, size) {
-        if size < from {
-            return Named::Refused(Refusal {
-                number: 18,
-                place: 0,
-            });
-        }
-        let start = strings + from;
-        let end = find_end(s, start, size - from);
-        match end {
-            Zero::After(len) => Named::Name(Span { start, len }),
-            Zero::Nothing => Named::Refused(Refusal {
-                number: 18,
-                place: 0,
-            }),
-        }
-    } else {
-        Named::Refused(Refusal {
-            number: 6,
-            place: 0,
-        })
-    }
-}
-
-// The name of a glyph in this table, or 17, 18. The record has been tested.
+// The name of a glyph in this table, or 17, 18. Does not test the record.
 fn name_of(s: &[u8], n: GlyphNameData, g: GlyphIndex) -> Named
     ensures { λ r. ⌜ r ≡ nameOf (now (s .entry)) n (g .0) ⌝ }
 {
@@ -89,8 +46,10 @@ fn name_of(s: &[u8], n: GlyphNameData, g: GlyphIndex) -> Named
     string_at(s, n.strings, n.size, from)
 }
 
-// Where a glyph's name stands in the font's bytes. 6 for a record that does not serve with these
-// bytes, 17 for a glyph at or above the names count, 18 for a name that does not end in the strings.
+// Where a glyph's name stands in the font's bytes, its zero byte not counted. Refused, all with place
+// 0: 6 for a record that fails its test with these bytes (`tables::record_fits`), 17 for a glyph at
+// or above the names count, 18 for a name that starts beyond the string data or has no zero byte
+// there.
 pub fn get_name(bytes: &[u8], rec: Record, glyph: GlyphIndex) -> Named
     ensures { λ r. ⌜ r ≡ getName (now (bytes .entry)) rec (glyph .0) ⌝ }
 {
@@ -102,21 +61,6 @@ pub fn get_name(bytes: &[u8], rec: Record, glyph: GlyphIndex) -> Named
             place: 0,
         })
     }
-}
-
-// The bytes of a span: those of them that there are.
-pub fn part_of(bytes: &[u8], span: Span) -> &[u8]
-    ensures { λ r. ⌜ now r ≡ partOf (now (bytes .entry)) span ⌝ }
-{
-    let start = span.start;
-    let len = span.len;
-    if bytes.len() < start {
-        return &bytes[..0];
-    }
-    if bytes.len() - start < len {
-        return &bytes[start..];
-    }
-    &bytes[start..start + len]
 }
 
 // The name itself, a part of the font's own bytes; empty where `get_name` refuses.

@@ -9,10 +9,7 @@ use lib.Signed.{mag, nonNeg, leZ}
 use mir.Syntax.{w16, w32}
 use mir.Val.{SFits}
 use borrow.Author.Tests.{le-leb}
-
-mag-cond : (t : Bool) (x y : ℤ) (h : ℕ) → mag x ≤ h → mag y ≤ h → mag (cond t x y) ≤ h
-mag-cond true x y h p q = p
-mag-cond false x y h p q = q
+use Rattle.reads.proofs.Signed.{mag-cond}
 
 mag-sub : (a b h : ℕ) → a ≤ h → b ≤ h → mag (subℕ a b) ≤ h
 mag-sub a b h p q = mag-cond (ltb a b) (negsuc (b - suc a)) (pos (a - b)) h (omega arith) (omega arith)

@@ -1,4 +1,4 @@
-// The bounds of all glyphs, and what they make of a line of text.
+// The bounds of all glyphs, and the signed numbers that the tests of 11 need.
 use crate::Extent;
 use crate::Sized;
 use reads::Refusal;
@@ -72,8 +72,9 @@ fn bounds_sized(m: MetricsUnpacked) -> Sized
     }
 }
 
-// The maximum bounds' height and width. 6 for a record that does not serve with these bytes, 11 for
-// bounds out of range.
+// The maximum bounds' height and width. Refused, both with place 0: 6 for a record that fails its test
+// with these bytes (`tables::record_fits`), 11 where the bounds' ascent or width is below 0, or their
+// ascent + descent is not 0 to 32,767.
 pub fn dimensions(bytes: &[u8], rec: Record) -> Sized
     ensures { λ r. ⌜ r ≡ dimensions (now (bytes .entry)) rec ⌝ }
 {

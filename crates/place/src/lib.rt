@@ -24,6 +24,7 @@ pub struct Extent {
     pub width: usize,
 }
 
+// The height and width of the bounds.
 pub enum Sized {
     Dimensions(Extent),
     Refused(Refusal),

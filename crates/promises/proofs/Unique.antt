@@ -1,11 +1,8 @@
 -- Each public function's contract, as it stands in the source, determines its answer: any two results that satisfy it for the same
 -- arguments are equal.
-use mathlib.Core.Path.{_≡_, sym, _∙_}
-use contract.Lifetimes.{Lfts}
-use borrow.Fn.Kinds.{Dens, resT, endedOf}
-use denote.Triple.Clauses.{AtExit}
+use mathlib.Core.Path.{sym, _∙_}
 use denote.Ref.{now}
-use Rattle.promises.specs.Unique.{Fixes}
+use Rattle.promises.specs.Unique.{Fixes, FixesBytes}
 use Rattle.reads.proofs.byte_at.Kinds as byte-at-kinds
 use Rattle.reads.proofs.byte_at.Reads as byte-at-reads
 use Rattle.reads.proofs.u16_at.Kinds as u16-at-kinds
@@ -20,6 +17,8 @@ use Rattle.reads.proofs.metric_of.Kinds as metric-of-kinds
 use Rattle.reads.proofs.metric_of.Reads as metric-of-reads
 use Rattle.reads.proofs.reach.Kinds as reach-kinds
 use Rattle.reads.proofs.reach.Reads as reach-reads
+use Rattle.reads.proofs.lies_in.Kinds as lies-in-kinds
+use Rattle.reads.proofs.lies_in.Reads as lies-in-reads
 use Rattle.tables.proofs.properties_at.Kinds as properties-at-kinds
 use Rattle.tables.proofs.properties_at.Reads as properties-at-reads
 use Rattle.tables.proofs.accelerators_at.Kinds as accelerators-at-kinds
@@ -88,6 +87,9 @@ metric-of-unique κs a r₁ r₂ x₁ x₂ p q = p ∙ sym q
 pub reach-unique : Fixes 0 reach-kinds.ps reach-kinds.r reach-reads.Post
 reach-unique κs a r₁ r₂ x₁ x₂ p q = p ∙ sym q
 
+pub lies-in-unique : Fixes 0 lies-in-kinds.ps lies-in-kinds.r lies-in-reads.Post
+lies-in-unique κs a r₁ r₂ x₁ x₂ p q = p ∙ sym q
+
 pub properties-at-unique : Fixes 1 properties-at-kinds.ps properties-at-kinds.r properties-at-reads.Post
 properties-at-unique κs a r₁ r₂ x₁ x₂ p q = p ∙ sym q
 
@@ -151,12 +153,8 @@ get-accelerators-unique κs a r₁ r₂ x₁ x₂ p q = p ∙ sym q
 pub dimensions-unique : Fixes 1 dimensions-kinds.ps dimensions-kinds.r dimensions-reads.Post
 dimensions-unique κs a r₁ r₂ x₁ x₂ p q = p ∙ sym q
 
--- a returned part: its bytes
-pub part-of-unique : (κs : Lfts 1) (a : Dens κs part-of-kinds.ps) (r₁ r₂ : resT part-of-kinds.r κs .Denot) (x₁ x₂ : AtExit (endedOf 1 part-of-kinds.ps part-of-kinds.r) κs)
-    → part-of-reads.Post κs a r₁ x₁ → part-of-reads.Post κs a r₂ x₂ → now r₁ ≡ now r₂
+pub part-of-unique : FixesBytes 1 part-of-kinds.ps part-of-kinds.r part-of-reads.Post (λ κs r. now r)
 part-of-unique κs a r₁ r₂ x₁ x₂ p q = p ∙ sym q
 
--- a returned part: its bytes
-pub name-bytes-unique : (κs : Lfts 1) (a : Dens κs name-bytes-kinds.ps) (r₁ r₂ : resT name-bytes-kinds.r κs .Denot) (x₁ x₂ : AtExit (endedOf 1 name-bytes-kinds.ps name-bytes-kinds.r) κs)
-    → name-bytes-reads.Post κs a r₁ x₁ → name-bytes-reads.Post κs a r₂ x₂ → now r₁ ≡ now r₂
+pub name-bytes-unique : FixesBytes 1 name-bytes-kinds.ps name-bytes-kinds.r name-bytes-reads.Post (λ κs r. now r)
 name-bytes-unique κs a r₁ r₂ x₁ x₂ p q = p ∙ sym q

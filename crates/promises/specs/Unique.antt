@@ -13,3 +13,9 @@ abbrev pub Fixes : (n : ℕ) (ps : List (PK n)) (r : RK n) → Out n ps r → Ty
 Fixes n ps r Contract =
     (κs : Lfts n) (a : Dens κs ps) (r₁ r₂ : resT r κs .Denot) (x₁ x₂ : AtExit (endedOf n ps r) κs)
     → Contract κs a r₁ x₁ → Contract κs a r₂ x₂ → r₁ ≡ r₂
+
+-- the same of a returned part of lent bytes, as far as its bytes go: a contract says which bytes a part has, not where they stand
+abbrev pub FixesBytes : (n : ℕ) (ps : List (PK n)) (r : RK n) → Out n ps r → ((κs : Lfts n) → resT r κs .Denot → List ℕ) → Type 0
+FixesBytes n ps r Contract bytes =
+    (κs : Lfts n) (a : Dens κs ps) (r₁ r₂ : resT r κs .Denot) (x₁ x₂ : AtExit (endedOf n ps r) κs)
+    → Contract κs a r₁ x₁ → Contract κs a r₂ x₂ → bytes κs r₁ ≡ bytes κs r₂

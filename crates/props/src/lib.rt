@@ -12,16 +12,19 @@ use tables::record_fits;
 ghost use mathlib.Core.Path.{_≡_};
 ghost use Rattle.props.specs.Props.{propString, propOf, propAt};
 
+// A property's value: a number, or where a string stands in the font's bytes.
 pub enum PropValue {
     Number(u32),
     String(Span),
 }
 
+// A property: where its name stands in the font's bytes, and its value.
 pub struct Property {
     pub name: Span,
     pub value: PropValue,
 }
 
+// The property at a number.
 pub enum PropFound {
     Property(Property),
     Refused(Refusal),
@@ -33,7 +36,7 @@ fn prop_string(s: &[u8], p: PropertiesData, from: u32) -> Named
     string_at(s, p.strings, p.size, from as usize)
 }
 
-// Property number `i` of this table, or 17, 18. The record has been tested.
+// Property number `i` of this table, or 17, 18. Does not test the record.
 fn prop_of(s: &[u8], p: PropertiesData, i: u32) -> PropFound
     ensures { λ r. ⌜ r ≡ propOf (now (s .entry)) p i ⌝ }
 {
@@ -68,8 +71,9 @@ fn prop_of(s: &[u8], p: PropertiesData, i: u32) -> PropFound
 }
 
 // The property at a number, from 0 on: where its name stands in the font's bytes, and its value, a
-// number or where the string stands. 6 for a record that does not serve with these bytes, 17 for a
-// number at or above the count, 18 for a name, or a string value, that does not end in the strings.
+// number or where the string stands. Refused, all with place 0: 6 for a record that fails its test
+// with these bytes (`tables::record_fits`), 17 for a number at or above the count, 18 for a name, and
+// after it a string value, that starts beyond the string data or has no zero byte there.
 pub fn prop_at(bytes: &[u8], rec: Record, number: u32) -> PropFound
     ensures { λ r. ⌜ r ≡ propAt (now (bytes .entry)) rec number ⌝ }
 {

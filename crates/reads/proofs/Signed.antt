@@ -48,13 +48,14 @@ module _ (w : Width) (n : ℕ) (h : 2 ^ hbits w ≤ n) (l : n < 2 ^ bits w) wher
   pub half-is : toZ w (ofZ w (negsuc 0 -ℤ toZ w (2 ^ bits w - 1 - n))) ≡ toZ w n
   half-is = toZ-ofZ half-fits ∙ from-half w n h l
 
-mag-cond : (t : Bool) (x y : ℤ) → mag x < 32768 → mag y < 32768 → mag (cond t x y) < 32768
-mag-cond true x y p q = p
-mag-cond false x y p q = q
+-- the size of a choice
+pub mag-cond : (t : Bool) (x y : ℤ) (h : ℕ) → mag x ≤ h → mag y ≤ h → mag (cond t x y) ≤ h
+mag-cond true x y h p q = p
+mag-cond false x y h p q = q
 
 pub metric-fits : (b : ℕ) → b < 256 → SFits w16 (less128 b)
 unfolding less128
-metric-fits b h = record { sfits = mag-cond (ltb b 128) (negsuc (128 - suc b)) (pos (b - 128)) (omega arith) (omega arith) }
+metric-fits b h = record { sfits = omega (arith, mag-cond (ltb b 128) (negsuc (128 - suc b)) (pos (b - 128)) 127 (omega arith) (omega arith)) }
 
 pub metric-is : (b : ℕ) → b < 256 → toZ w16 b -ℤ pos 128 ≡ less128 b
 unfolding less128

@@ -11,12 +11,12 @@ use lib.IntN.{ℤ, pos, negsuc, subℕ}
 abbrev pub byteAt : List ℕ → ℕ → ℕ
 byteAt s at = getD s at 0
 
--- which of `w` bytes has `k` of them above it in weight: with the most significant byte first the k-th, else the k-th from the end
+-- which of `w` bytes is the k-th most significant, from 0: with the most significant byte first the k-th, else the k-th from the end
 abbrev pub digitIndex : Bool → ℕ → ℕ → ℕ
 digitIndex true w k = k
 digitIndex false w k = w - 1 - k
 
--- the byte of the `w` at `at` that has `k` of them above it in weight
+-- the k-th most significant, from 0, of the `w` bytes at `at`
 abbrev pub digitAt : Bool → ℕ → List ℕ → ℕ → ℕ → ℕ
 digitAt big w s at k = byteAt s (at + digitIndex big w k)
 

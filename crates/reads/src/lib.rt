@@ -28,7 +28,7 @@ fn wide(x: u8) -> u32
     x as u32
 }
 
-// The byte that has `k` of the `width` bytes at `at` above it in weight.
+// The k-th most significant, from 0, of the `width` bytes at `at`.
 fn digit_at(s: &[u8], at: usize, width: usize, big: bool, k: usize) -> u32
     requires { ⌜ k < width ⌝ }
     requires { ⌜ at + width ≤ length (now s) ⌝ }
@@ -59,8 +59,9 @@ fn digits_at(s: &[u8], at: usize, width: usize, big: bool) -> u32
     n
 }
 
-// Whether `size` bytes lie in `len`, from `offset` bytes after `start` on.
-fn lies_in(len: usize, start: usize, offset: usize, size: usize) -> bool
+// Whether `size` bytes lie in `len`, from `offset` bytes after `start` on. By subtraction, so that no
+// sum is formed that might not fit.
+pub fn lies_in(len: usize, start: usize, offset: usize, size: usize) -> bool
     ensures { λ r. ⌜ r ≡ leb (start + offset + size) len ⌝ }
 {
     if len < start {
@@ -72,6 +73,8 @@ fn lies_in(len: usize, start: usize, offset: usize, size: usize) -> bool
     size <= len - start - offset
 }
 
+// The number of `width` bytes, `offset` bytes after `start`; 0 where they do not all lie in the
+// bytes. This makes every read total.
 fn number_at(s: &[u8], start: usize, offset: usize, width: usize, big: bool) -> u32
     requires { ⌜ width ≤ 4 ⌝ }
     ensures { λ r. ⌜ r ≡ numAt big width (now (s .entry)) (start + offset) ⌝ }
@@ -84,32 +87,30 @@ fn number_at(s: &[u8], start: usize, offset: usize, width: usize, big: bool) -> 
     }
 }
 
-// The byte there, or 0.
+// The byte `offset` bytes after `start`; 0 where it does not lie in the bytes.
 pub fn byte_at(s: &[u8], start: usize, offset: usize) -> u8
     ensures { λ r. ⌜ r ≡ byteAt (now (s .entry)) (start + offset) ⌝ }
 {
-    if lies_in(s.len(), start, offset, 1) {
-        s[start + offset]
-    } else {
-        0
-    }
+    number_at(s, start, offset, 1, false) as u8
 }
 
-// The number of the two bytes there, or 0.
+// The number of the two bytes `offset` bytes after `start`, most significant first where `big`; 0
+// where they do not both lie in the bytes.
 pub fn u16_at(s: &[u8], start: usize, offset: usize, big: bool) -> u16
     ensures { λ r. ⌜ r ≡ u16At big (now (s .entry)) (start + offset) ⌝ }
 {
     number_at(s, start, offset, 2, big) as u16
 }
 
-// The number of the four bytes there, or 0.
+// The number of the four bytes `offset` bytes after `start`, most significant first where `big`; 0
+// where they do not all lie in the bytes.
 pub fn u32_at(s: &[u8], start: usize, offset: usize, big: bool) -> u32
     ensures { λ r. ⌜ r ≡ u32At big (now (s .entry)) (start + offset) ⌝ }
 {
     number_at(s, start, offset, 4, big)
 }
 
-// The signed number of the two bytes there, or 0.
+// As `u16_at`, and from half of all numbers on counted from below 0.
 pub fn i16_at(s: &[u8], start: usize, offset: usize, big: bool) -> i16
     ensures { λ r. ⌜ r ≡ i16At big (now (s .entry)) (start + offset) ⌝ }
 {
@@ -122,7 +123,7 @@ pub fn i16_at(s: &[u8], start: usize, offset: usize, big: bool) -> i16
     }
 }
 
-// The signed number of the four bytes there, or 0.
+// As `u32_at`, and from half of all numbers on counted from below 0.
 pub fn i32_at(s: &[u8], start: usize, offset: usize, big: bool) -> i32
     ensures { λ r. ⌜ r ≡ i32At big (now (s .entry)) (start + offset) ⌝ }
 {
@@ -142,8 +143,8 @@ pub fn metric_of(b: u8) -> i16
     (b as i16) - 128
 }
 
-// Where `offset` bytes after `start` is, for reads in `len` bytes: the sum, or `len` past the end,
-// where all reads are 0 alike.
+// The place `offset` bytes after `start`, cut at `len`: past the end every read is 0, so that the
+// cut does not show.
 pub fn reach(len: usize, start: usize, offset: usize) -> usize
     ensures { λ r. ⌜ r ≡ min (start + offset) len ⌝ }
 {

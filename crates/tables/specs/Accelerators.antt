@@ -32,6 +32,10 @@ acceleratorsTable s at =
       maxbounds = wideAt big s (at + 36);
     }
 
+-- where its contents end: "48 bytes"
+abbrev pub acceleratorsEnd : ℕ → ℕ
+acceleratorsEnd at = at + 48
+
 -- 6 where "a known table's contents run past its bytes", which end at `end`
 unfoldable pub acceleratorsAt : List ℕ → ℕ → ℕ → AcceleratorRead
-acceleratorsAt s at end = cond (ltb end (at + 48)) (AcceleratorRead.Refused 6) (AcceleratorRead.Table (acceleratorsTable s at))
+acceleratorsAt s at end = cond (ltb end (acceleratorsEnd at)) (AcceleratorRead.Refused 6) (AcceleratorRead.Table (acceleratorsTable s at))

@@ -40,7 +40,7 @@ codesEnd c = c .entries + c .size
 unfoldable pub codesAt : List ℕ → ℕ → ℕ → EncodingRead
 codesAt s at end =
     let c = codesTable s at in
-    cond (ltb end (at + 14)) (EncodingRead.Refused 6)
+    cond (ltb end (c .entries)) (EncodingRead.Refused 6)
     (cond (ltb (c .high2) (c .low2) || ltb (c .high1) (c .low1)) (EncodingRead.Refused 7)
     (cond (ltb end (codesEnd c)) (EncodingRead.Refused 6)
     (EncodingRead.Table c)))

@@ -33,8 +33,7 @@ pub fn codes_at(s: &[u8], at: u32, end: usize) -> EncodingRead
     ensures { λ r. ⌜ r ≡ codesAt (now (s .entry)) at end ⌝ }
 {
     let start = at as usize;
-    let entries = start + 14;
-    if end < entries {
+    if end < start + 14 {
         return EncodingRead::Refused(6);
     }
     let big = big_bit(format_at(s, start));
@@ -48,6 +47,7 @@ pub fn codes_at(s: &[u8], at: u32, end: usize) -> EncodingRead
     if high1 < low1 {
         return EncodingRead::Refused(7);
     }
+    let entries = start + 14;
     let size = 2 * entry_count(low2, high2, low1, high1);
     if end < entries + size {
         return EncodingRead::Refused(6);

@@ -7,18 +7,15 @@ use crate::PropertiesData;
 use crate::Record;
 use crate::code_table::entry_count;
 use crate::metrics_table::metric_bytes;
+use reads::lies_in;
 ghost use mathlib.Core.Path.{_≡_};
 ghost use Rattle.tables.specs.Fits.{inside, padFits, propsFit, metricsFit, bitmapsFit, codesFit, namesFit, recordFits};
 
-// Whether `size` bytes from `start` on lie inside `len` bytes; by subtraction, so that no sum leaves
-// a usize.
+// Whether `size` bytes from `start` on lie inside `len` bytes.
 pub fn is_inside(len: usize, start: usize, size: usize) -> bool
     ensures { λ r. ⌜ r ≡ inside len start size ⌝ }
 {
-    if len < start {
-        return false;
-    }
-    size <= len - start
+    lies_in(len, start, 0, size)
 }
 
 fn props_fit(len: usize, p: PropertiesData) -> bool

@@ -1,9 +1,10 @@
 // A font's record: what loading keeps of the six tables, as numbers beside the font's own bytes.
-// The parts bear 000's names. A record is plain data that a caller may have made up, so every call
+// Its structs bear 000's names. A record is plain data that a caller may have made up, so every call
 // that takes one tests it first (`record_fits`).
 //
-// Each table is read by one function, from the place where it begins and the end of its bytes. A
-// place is a u32, as in the directory, so that no sum of a table's numbers leaves a usize.
+// Each table is read by one function, from the place where it begins and the end of its bytes; bytes
+// past the file's end read as 0. A place is a u32, as in the directory, so that no sum of a table's
+// numbers leaves a usize. `big` in a part says that its numbers have the most significant byte first.
 mod accelerator_table;
 mod bitmap_table;
 mod code_table;
@@ -26,7 +27,8 @@ pub use metrics_table::metrics_at;
 pub use name_table::names_at;
 pub use property_table::properties_at;
 
-// Table 1. `count` property records of 9 bytes from `records` on; string data from `strings` on.
+// Table 1. `count` property records of 9 bytes from `records` on; string data of `size` bytes from
+// `strings` on.
 #[repr(C)]
 pub struct PropertiesData {
     pub big: bool,
@@ -114,6 +116,7 @@ pub struct GlyphNameData {
     pub size: usize,
 }
 
+// The six parts. Offsets in them count from the start of the font's bytes.
 #[repr(C)]
 pub struct Record {
     pub props: PropertiesData,

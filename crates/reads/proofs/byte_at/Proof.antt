@@ -1,34 +1,24 @@
+use mathlib.Core.Path.{_∙_}
 use Prim.Native.Nat.{_+_}
-use lib.ListN.{length}
-use native.Mathlib.Omega.{arith}
-use mathlib.Core.Path.{_∙_, sym}
-use borrow.Author.Tests.{leb-true, leb-false}
-use Rattle.reads.proofs.Past.{byte-past}
+use Rattle.reads.proofs.Digits.{one-digit}
 use borrow.Author.Needs.{needs}
 use Rattle.reads.proofs.byte_at.Statement.{statement}
 use Rattle.reads.proofs.byte_at.Tie as tie
+use Rattle.reads.proofs.byte_at.Reads as reads
+use Rattle.reads.proofs.byte_at.Lts as lts
+use Rattle.reads.proofs.number_at.Reads as number-at-reads
 
--- src/lib.rt:91:8
-lies-in-requires : tie.Need-lies-in-requires
-lies-in-requires c κs = search needs
+-- src/lib.rt:94:5
+number-at-requires : tie.Need-number-at-requires
+number-at-requires c κs = search needs
 
--- src/lib.rt:92:11
-add-result : tie.Need-add-result
-add-result c = omega (arith, leb-true (c .before .before .before .args .start + c .before .before .before .args .offset + 1) (length (c .before .before .before .args .s .now)) (sym (c .before .lies-in .ensures) ∙ c .if1 .taken))
+-- src/lib.rt:94:5
+cast-result : tie.Need-cast-result
+cast-result c = search needs
 
--- src/lib.rt:92:9
-shared-slice-read-result : tie.Need-shared-slice-read-result
-shared-slice-read-result c = omega (arith, leb-true (c .before .before .before .before .args .start + c .before .before .before .before .args .offset + 1) (length (c .before .before .before .before .args .s .now)) (sym (c .before .before .lies-in .ensures) ∙ c .before .if1 .taken))
-
--- src/lib.rt:88:1
+-- src/lib.rt:91:1
 returns : tie.Need-returns
-returns c = search needs
-
--- src/lib.rt:88:1
-returns-2 : tie.Need-returns-2
-returns-2 c =
-    sym (byte-past (c .before .before .before .args .s .now) (c .before .before .before .args .start + c .before .before .before .args .offset) (omega (arith, leb-false (c .before .before .before .args .start + c .before .before .before .args .offset + 1) (length (c .before .before .before .args .s .now)) (sym (c .before .lies-in .ensures) ∙ c .if1 .left))))
+returns c = c .number-at .ensures .0 ∙ one-digit (c .before .before .args .s .now) (c .before .before .args .start + c .before .before .args .offset)
 
 pub byte-at-spec : {M : Type 1} → statement M
-byte-at-spec =
-    tie.close (tie.spec lies-in-requires add-result shared-slice-read-result returns returns-2)
+byte-at-spec = tie.close (tie.spec number-at-requires cast-result returns)

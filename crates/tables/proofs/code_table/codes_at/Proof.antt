@@ -1,51 +1,61 @@
-use borrow.Author.Tests.{lt-ltb, le-ltb}
+use borrow.Author.Tests.{lt-ltb, le-ltb, le-leb, lt-leb, eq-eqb, ne-eqb}
 use Rattle.tables.specs.Codes.{codesAt, codesTable}
 use borrow.Author.Needs.{needs}
 use Rattle.tables.proofs.code_table.codes_at.Statement.{statement}
 use Rattle.tables.proofs.code_table.codes_at.Tie as tie
+use Rattle.tables.proofs.code_table.codes_at.Reads as reads
+use Rattle.tables.proofs.code_table.codes_at.Lts as lts
+use Rattle.reads.proofs.u16_at.Reads as u16-at-reads
+use Rattle.tables.proofs.code_table.entry_count.Reads as entry-count-reads
+use Rattle.tables.proofs.format.big_bit.Reads as big-bit-reads
+use Rattle.tables.proofs.format.format_at.Reads as format-at-reads
 
--- src/code_table.rt:36:19
-add-entries : tie.Need-add-entries
-add-entries c = search needs
+-- src/code_table.rt:36:14
+add-if1 : tie.Need-add-if1
+add-if1 c = search needs
 
--- src/code_table.rt:38:9
+-- src/code_table.rt:37:9
 returns : tie.Need-returns
 unfolding codesAt codesTable
 returns c = rw (lt-ltb _ _ (c .if1 .taken))
 
--- src/code_table.rt:40:23
+-- src/code_table.rt:39:23
 format-at-requires : tie.Need-format-at-requires
 format-at-requires c κs = search needs
 
--- src/code_table.rt:40:9
+-- src/code_table.rt:39:9
 big-bit-requires : tie.Need-big-bit-requires
 big-bit-requires c κs = search needs
 
--- src/code_table.rt:41:9
+-- src/code_table.rt:40:9
 u16-at-requires : tie.Need-u16-at-requires
 u16-at-requires c κs = search needs
 
--- src/code_table.rt:42:9
+-- src/code_table.rt:41:9
 u16-at-requires-2 : tie.Need-u16-at-requires-2
 u16-at-requires-2 c κs = search needs
 
--- src/code_table.rt:43:9
+-- src/code_table.rt:42:9
 u16-at-requires-3 : tie.Need-u16-at-requires-3
 u16-at-requires-3 c κs = search needs
 
--- src/code_table.rt:44:9
+-- src/code_table.rt:43:9
 u16-at-requires-4 : tie.Need-u16-at-requires-4
 u16-at-requires-4 c κs = search needs
 
--- src/code_table.rt:46:9
+-- src/code_table.rt:45:9
 returns-2 : tie.Need-returns-2
 unfolding codesAt codesTable
 returns-2 c = rw (le-ltb _ _ (c .before .before .before .before .before .before .before .if1 .left), ← c .before .before .before .before .before .before .format-at .ensures, ← c .before .before .before .before .before .big-bit .ensures, ← c .before .before .before .before .u16-at .ensures, ← c .before .before .before .u16-at2 .ensures, ← c .before .before .u16-at3 .ensures, ← c .before .u16-at4 .ensures, lt-ltb _ _ (c .if2 .taken))
 
--- src/code_table.rt:49:9
+-- src/code_table.rt:48:9
 returns-3 : tie.Need-returns-3
 unfolding codesAt codesTable
 returns-3 c = rw (le-ltb _ _ (c .before .before .before .before .before .before .before .before .if1 .left), ← c .before .before .before .before .before .before .before .format-at .ensures, ← c .before .before .before .before .before .before .big-bit .ensures, ← c .before .before .before .before .before .u16-at .ensures, ← c .before .before .before .before .u16-at2 .ensures, ← c .before .before .before .u16-at3 .ensures, ← c .before .before .u16-at4 .ensures, le-ltb _ _ (c .before .if2 .left), lt-ltb _ _ (c .if3 .taken))
+
+-- src/code_table.rt:50:19
+add-entries : tie.Need-add-entries
+add-entries c = search needs
 
 -- src/code_table.rt:51:20
 entry-count-requires : tie.Need-entry-count-requires
@@ -77,7 +87,7 @@ pub codes-at-spec : {M : Type 1} → statement M
 codes-at-spec =
     tie.close
     (tie.spec
-    add-entries
+    add-if1
     returns
     format-at-requires
     big-bit-requires
@@ -87,6 +97,7 @@ codes-at-spec =
     u16-at-requires-4
     returns-2
     returns-3
+    add-entries
     entry-count-requires
     mul-size
     add-if4

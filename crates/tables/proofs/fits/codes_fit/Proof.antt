@@ -3,19 +3,19 @@ use borrow.Author.Needs.{needs}
 use Rattle.tables.proofs.fits.codes_fit.Statement.{statement}
 use Rattle.tables.proofs.fits.codes_fit.Tie as tie
 
--- src/fits.rt:57:9
+-- src/fits.rt:54:9
 is-inside-requires : tie.Need-is-inside-requires
 is-inside-requires c κs = search needs
 
--- src/fits.rt:58:22
+-- src/fits.rt:55:22
 entry-count-requires : tie.Need-entry-count-requires
 entry-count-requires c κs = search needs
 
--- src/fits.rt:58:18
+-- src/fits.rt:55:18
 mul-needed : tie.Need-mul-needed
 mul-needed c = search needs
 
--- src/fits.rt:54:1
+-- src/fits.rt:51:1
 returns : tie.Need-returns
 unfolding codesFit
 returns c = rw (← c .before .before .before .before .is-inside .ensures, ← c .before .before .before .entry-count .ensures .0)

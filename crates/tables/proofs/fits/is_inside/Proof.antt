@@ -1,18 +1,18 @@
-use mathlib.Core.Path.{sym}
-use Prim.Native.Nat.{_+_, _-_}
-use native.Mathlib.Omega.{arith}
-use borrow.Author.Tests.{lt-leb}
-use Rattle.reads.proofs.Tests.{same-leb}
+use native.Mathlib.Nat.{add-zero}
+use borrow.Author.Needs.{needs}
 use Rattle.tables.proofs.fits.is_inside.Statement.{statement}
 use Rattle.tables.proofs.fits.is_inside.Tie as tie
+use Rattle.tables.proofs.fits.is_inside.Reads as reads
+use Rattle.tables.proofs.fits.is_inside.Lts as lts
+use Rattle.reads.proofs.lies_in.Reads as lies-in-reads
 
--- src/fits.rt:19:9
-returns : tie.Need-returns
-returns c = sym (lt-leb (c .before .args .start + c .before .args .size) (c .before .args .len) (omega arith))
+-- src/fits.rt:18:5
+lies-in-requires : tie.Need-lies-in-requires
+lies-in-requires c κs = search needs
 
 -- src/fits.rt:15:1
-returns-2 : tie.Need-returns-2
-returns-2 c = same-leb (c .before .args .size) (c .before .args .len - c .before .args .start) (c .before .args .start + c .before .args .size) (c .before .args .len) (λ h. omega arith) (λ h. omega arith)
+returns : tie.Need-returns
+returns c = (rw (add-zero (c .before .args .start)) at (c .lies-in .ensures))
 
 pub is-inside-spec : {M : Type 1} → statement M
-is-inside-spec = tie.close (tie.spec returns returns-2)
+is-inside-spec = tie.close (tie.spec lies-in-requires returns)

@@ -5,45 +5,45 @@ use lib.ListN.{length}
 use borrow.Author.Tests.{leb-true, lt-ltb, le-ltb}
 use Rattle.names.specs.Strings.{stringAt}
 use borrow.Author.Needs.{needs}
-use Rattle.names.proofs.string_at.Statement.{statement}
-use Rattle.names.proofs.string_at.Tie as tie
+use Rattle.names.proofs.strings.string_at.Statement.{statement}
+use Rattle.names.proofs.strings.string_at.Tie as tie
 
--- src/lib.rt:53:8
+-- src/strings.rt:33:8
 is-inside-requires : tie.Need-is-inside-requires
 is-inside-requires c κs = search needs
 
--- src/lib.rt:55:13
+-- src/strings.rt:35:13
 returns : tie.Need-returns
 unfolding stringAt
 returns c = rw (← c .before .before .is-inside .ensures, c .before .if1 .taken, lt-ltb _ _ (c .if2 .taken))
 
--- src/lib.rt:60:21
+-- src/strings.rt:40:21
 add-start : tie.Need-add-start
 add-start c = omega (arith, leb-true (c .before .before .before .before .args .strings + c .before .before .before .before .args .size) (length (c .before .before .before .before .args .s .now)) (sym (c .before .before .is-inside .ensures) ∙ c .before .if1 .taken))
 
--- src/lib.rt:61:13
+-- src/strings.rt:41:13
 find-end-requires : tie.Need-find-end-requires
 find-end-requires c κs = omega (arith, leb-true (c .before .before .before .before .args .strings + c .before .before .before .before .args .size) (length (c .before .before .before .before .args .s .now)) (sym (c .before .before .is-inside .ensures) ∙ c .before .if1 .taken))
 
--- src/lib.rt:63:25
+-- src/strings.rt:43:25
 enum-known-end : tie.Need-enum-known-end
 enum-known-end c = search needs
 
--- src/lib.rt:64:45
+-- src/strings.rt:44:45
 enum-told : tie.Need-enum-told
 enum-told c = search needs
 
--- src/lib.rt:50:1
+-- src/strings.rt:30:1
 returns-2 : tie.Need-returns-2
 unfolding stringAt
 returns-2 c = rw (← c .before .before .before .before .before .before .is-inside .ensures, c .before .before .before .before .before .if1 .taken, le-ltb _ _ (c .before .before .before .before .if2 .left), ← c .before .before .before .find-end .ensures, c .before .end .given .1)
 
--- src/lib.rt:50:1
+-- src/strings.rt:30:1
 returns-3 : tie.Need-returns-3
 unfolding stringAt
 returns-3 c = rw (← c .before .before .before .before .before .is-inside .ensures, c .before .before .before .before .if1 .taken, le-ltb _ _ (c .before .before .before .if2 .left), ← c .before .before .find-end .ensures, c .enum-told .given .1)
 
--- src/lib.rt:50:1
+-- src/strings.rt:30:1
 returns-4 : tie.Need-returns-4
 unfolding stringAt
 returns-4 c = rw (← c .before .is-inside .ensures, c .if1 .left)
