@@ -6,6 +6,7 @@ The answers come from tests/definitions/model.py, so that the stored output is n
 program once wrote. With --write the output is stored anew from the model."""
 import copy
 import os
+import re
 import sys
 
 HERE = os.path.dirname(os.path.abspath(__file__))
@@ -114,6 +115,29 @@ def code_lines(font, rec):
     return found, [code_line(font, rec, code) for code in found + without]
 
 
+# a record broken in one more way each: what, its part, and the fields that are set; the end is the font's length
+BROKEN = [
+    ("second byte 1 to 0", "codes", {"low2": 1, "high2": 0}),
+    ("first byte 1 to 0", "codes", {"low1": 1, "high1": 0}),
+    ("code entries of 1 byte", "codes", {"size": 1}),
+    ("code entries at the end", "codes", {"entries": None}),
+    ("row pad 3", "bitmaps", {"pad": 3}),
+    ("bitmap offsets at the end", "bitmaps", {"offsets": None}),
+    ("bitmap data at the end", "bitmaps", {"bits": None}),
+    ("metrics at the end", "metrics", {"records": None}),
+    ("name offsets at the end", "names", {"offsets": None}),
+    ("4294967295 properties", "props", {"count": 4294967295}),
+    ("property strings of 18446744073709551615 bytes", "props", {"size": 18446744073709551615}),
+]
+
+
+def broken_line(font, rec, what, part, fields):
+    bad = copy.deepcopy(rec)
+    for field, value in fields.items():
+        bad[part][field] = len(font) if value is None else value
+    return "with %s, %s" % (what, dimensions_line(font, bad))
+
+
 def answers(font, rec):
     for i in range(rec["props"]["count"] + 1):
         yield prop_line(font, rec, i)
@@ -133,6 +157,8 @@ def answers(font, rec):
     yield dimensions_line(font, bad)
     yield code_line(font, bad, found[0] if found else 0)
     yield glyph_line(font, bad, 0)
+    for way in BROKEN:
+        yield broken_line(font, rec, *way)
 
 
 def whole(name, font):
@@ -152,7 +178,15 @@ def fail(text):
     sys.exit(1)
 
 
+def font_f():
+    """font F as it stands in crates/promises/specs/FontF.antt"""
+    with open(os.path.join(ROOT, "crates", "promises", "specs", "FontF.antt"), encoding="utf-8") as f:
+        return bytes.fromhex("".join(re.findall(r'"([0-9A-F]+)"', f.read())))
+
+
 def main():
+    if make.two_digits() != font_f():
+        fail("font F here is not the one of crates/promises/specs/FontF.antt")
     made = make.files()
     kept = sorted(os.listdir(os.path.join(PROGRAM, "data")))
     if kept != sorted(made):

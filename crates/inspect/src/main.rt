@@ -1,5 +1,5 @@
 // Lays open each font file that an argument names: its record and the library's answers about it.
-// Of a file longer than the buffer, only the bytes that fit are read.
+// A file that fills the buffer may be longer than it, and is not shown.
 mod answers;
 mod parts;
 mod show;
@@ -16,6 +16,10 @@ fn one(path: &[u8]) {
     let mut font = io::large_buffer();
     let n = io::read_full(fd, &mut font);
     libc::close(fd);
+    if n == 65536 {
+        io::write_all(1, b"over 65,535 bytes\n");
+        return;
+    }
     show(&font[..n]);
 }
 
@@ -28,6 +32,7 @@ fn named(i: usize) {
     one(&path[..length]);
 }
 
+// Up to 999 files: the bound lets the loop be seen to end.
 fn main() {
     let mut i: usize = 1;
     while i < 1000 && i < os::arg_count() {

@@ -111,6 +111,62 @@ fn broken(bytes: &[u8], rec: Record, code: CharCode) {
     glyph_line(bytes, bad, GlyphIndex(0));
 }
 
+// One call with a record that is broken in another way: all calls make the same test.
+fn broken_otherwise(bytes: &[u8], what: &[u8], bad: Record) {
+    say(b"with ");
+    say(what);
+    say(b", ");
+    dimensions_line(bytes, bad);
+}
+
+fn broken_codes(bytes: &[u8], rec: Record) {
+    let mut second = rec;
+    second.codes.low2 = 1;
+    second.codes.high2 = 0;
+    broken_otherwise(bytes, b"second byte 1 to 0", second);
+    let mut first = rec;
+    first.codes.low1 = 1;
+    first.codes.high1 = 0;
+    broken_otherwise(bytes, b"first byte 1 to 0", first);
+    let mut short = rec;
+    short.codes.size = 1;
+    broken_otherwise(bytes, b"code entries of 1 byte", short);
+    let mut outside = rec;
+    outside.codes.entries = bytes.len();
+    broken_otherwise(bytes, b"code entries at the end", outside);
+}
+
+fn broken_bitmaps(bytes: &[u8], rec: Record) {
+    let mut pad = rec;
+    pad.bitmaps.pad = 3;
+    broken_otherwise(bytes, b"row pad 3", pad);
+    let mut offsets = rec;
+    offsets.bitmaps.offsets = bytes.len();
+    broken_otherwise(bytes, b"bitmap offsets at the end", offsets);
+    let mut bits = rec;
+    bits.bitmaps.bits = bytes.len();
+    broken_otherwise(bytes, b"bitmap data at the end", bits);
+}
+
+fn broken_others(bytes: &[u8], rec: Record) {
+    let mut metrics = rec;
+    metrics.metrics.records = bytes.len();
+    broken_otherwise(bytes, b"metrics at the end", metrics);
+    let mut names = rec;
+    names.names.offsets = bytes.len();
+    broken_otherwise(bytes, b"name offsets at the end", names);
+    let mut props = rec;
+    props.props.count = 4294967295;
+    broken_otherwise(bytes, b"4294967295 properties", props);
+    let mut strings = rec;
+    strings.props.size = 18446744073709551615;
+    broken_otherwise(
+        bytes,
+        b"property strings of 18446744073709551615 bytes",
+        strings,
+    );
+}
+
 fn answers_lines(bytes: &[u8], rec: Record) {
     all_props(bytes, rec);
     accelerators_answer(bytes, rec);
@@ -121,6 +177,9 @@ fn answers_lines(bytes: &[u8], rec: Record) {
     }
     glyphs_without(bytes, rec);
     broken(bytes, rec, CharCode(seen.first as u32));
+    broken_codes(bytes, rec);
+    broken_bitmaps(bytes, rec);
+    broken_others(bytes, rec);
 }
 
 // Writes all there is to say of a font's bytes, or the refusal of them.
