@@ -1,7 +1,7 @@
 -- What a found string is, in plain logic: bytes of the string data that are not zero, and a zero byte after them; and where none is
 -- found though it starts in the string data, no byte from there on is zero.
 use mathlib.Core.Path.{_≡_, refl, sym, subst, _∙_}
-use mathlib.Core.Bool.{true, false}
+use mathlib.Core.Bool.{true}
 use mathlib.Core.List.{List}
 use Prim.Native.Nat.{ℕ, zero, suc, _+_, _-_, _≤_, _<_}
 use native.Mathlib.Nat.{zero-add}

@@ -1,3 +1,4 @@
 pub mod Zeros
 pub mod Parts
 pub mod EndsAtZero
+pub mod OffsetInside

@@ -1,6 +1,5 @@
 -- The laws of signed 16-bit numbers in whole numbers: sums fit 32 bits, and the tests against 0.
 use mathlib.Core.Path.{_≡_, refl}
-use mathlib.Core.Bool.{Bool, true, false, cond}
 use Prim.Native.Nat.{ℕ, suc, _+_, _-_, _≤_}
 use native.Mathlib.Omega.{arith}
 use lib.Dec.{ltb}

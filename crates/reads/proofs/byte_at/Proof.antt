@@ -4,9 +4,6 @@ use Rattle.reads.proofs.Digits.{one-digit}
 use borrow.Author.Needs.{needs}
 use Rattle.reads.proofs.byte_at.Statement.{statement}
 use Rattle.reads.proofs.byte_at.Tie as tie
-use Rattle.reads.proofs.byte_at.Reads as reads
-use Rattle.reads.proofs.byte_at.Lts as lts
-use Rattle.reads.proofs.number_at.Reads as number-at-reads
 
 -- src/lib.rt:94:5
 number-at-requires : tie.Need-number-at-requires

@@ -1,14 +1,8 @@
-use borrow.Author.Tests.{lt-ltb, le-ltb, le-leb, lt-leb, eq-eqb, ne-eqb}
+use borrow.Author.Tests.{lt-ltb, le-ltb}
 use Rattle.tables.specs.Codes.{codesAt, codesTable}
 use borrow.Author.Needs.{needs}
 use Rattle.tables.proofs.code_table.codes_at.Statement.{statement}
 use Rattle.tables.proofs.code_table.codes_at.Tie as tie
-use Rattle.tables.proofs.code_table.codes_at.Reads as reads
-use Rattle.tables.proofs.code_table.codes_at.Lts as lts
-use Rattle.reads.proofs.u16_at.Reads as u16-at-reads
-use Rattle.tables.proofs.code_table.entry_count.Reads as entry-count-reads
-use Rattle.tables.proofs.format.big_bit.Reads as big-bit-reads
-use Rattle.tables.proofs.format.format_at.Reads as format-at-reads
 
 -- src/code_table.rt:36:14
 add-if1 : tie.Need-add-if1

@@ -2,9 +2,6 @@ use native.Mathlib.Nat.{add-zero}
 use borrow.Author.Needs.{needs}
 use Rattle.tables.proofs.fits.is_inside.Statement.{statement}
 use Rattle.tables.proofs.fits.is_inside.Tie as tie
-use Rattle.tables.proofs.fits.is_inside.Reads as reads
-use Rattle.tables.proofs.fits.is_inside.Lts as lts
-use Rattle.reads.proofs.lies_in.Reads as lies-in-reads
 
 -- src/fits.rt:18:5
 lies-in-requires : tie.Need-lies-in-requires
