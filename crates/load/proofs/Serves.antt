@@ -1,33 +1,22 @@
 -- A record that loading gave serves with its bytes: no call with both is refused 6.
 use mathlib.Core.Path.{_≡_, refl, subst}
-use mathlib.Core.Bool.{true, false, not, _&&_, _||_}
+use mathlib.Core.Bool.{true, false, not, _&&_}
 use mathlib.Core.List.{List}
-use Prim.Native.Nat.{ℕ, zero, suc, _+_, _*_, _≤_, min}
+use Prim.Native.Nat.{ℕ, zero, suc, _+_, _*_, min}
 use native.Mathlib.Omega.{arith}
 use lib.ListN.{length}
 use lib.Dec.{ltb, eqb}
 use Rattle.reads.specs.Num.{u32At}
 use Rattle.reads.proofs.Tests.{split, never, either, both}
-use Rattle.tables.specs.Properties.{propertiesAt}
-use Rattle.tables.specs.Accelerators.{acceleratorsAt}
-use Rattle.tables.specs.Metrics.{metricsAt}
-use Rattle.tables.specs.Bitmaps.{bitmapsAt}
-use Rattle.tables.specs.Codes.{codesAt}
-use Rattle.tables.specs.Names.{namesAt}
 use Rattle.tables.specs.Fits.{propsFit, metricsFit, bitmapsFit, codesFit, namesFit, recordFits}
-use Rattle.tables.specs.declared.PropertiesRead.{PropertiesRead}
-use Rattle.tables.specs.declared.AcceleratorRead.{AcceleratorRead}
-use Rattle.tables.specs.declared.MetricsRead.{MetricsRead}
-use Rattle.tables.specs.declared.BitmapRead.{BitmapRead}
-use Rattle.tables.specs.declared.EncodingRead.{EncodingRead}
-use Rattle.tables.specs.declared.GlyphNameRead.{GlyphNameRead}
 use Rattle.load.specs.declared.Gathered.{Gathered}
 use Rattle.load.specs.declared.Entered.{Entered}
 use Rattle.load.specs.declared.Loaded.{Loaded}
-use Rattle.load.specs.Gather.{nothing, gotProps, gotAccel, gotMetrics, gotBitmaps, gotCodes, gotNames, allSix, finished}
-use Rattle.load.specs.Load.{tableOf, entryOf, entryAt, afterEntry, entriesFrom, loaded}
+use Rattle.load.specs.Gather.{nothing, added, allSix, finished}
+use Rattle.load.specs.Load.{tableAt, entryOf, entryAt, afterEntry, entriesFrom, loaded}
+use Rattle.tables.specs.declared.TableRead.{TableRead}
 use Rattle.tables.specs.declared.Record.{Record}
-use Rattle.load.proofs.TablesFit.{PropsRead, MetricsTableRead, BitmapsRead, CodesRead, NamesRead, props-read, metrics-read, bitmaps-read, codes-read, names-read}
+use Rattle.load.proofs.TablesFit.{ReadFits, table-read}
 
 -- of what the directory has given so far, each table that there is fits
 record Fitting (len : ℕ) (g : Gathered) : Type 0 where
@@ -41,51 +30,26 @@ abbrev EnteredFits : ℕ → Entered → Type 0
 EnteredFits len (Entered.Next g) = Fitting len g
 EnteredFits len (Entered.Refused n) = Unit {0}
 
-module _ (len : ℕ) (g : Gathered) (f : Fitting len g) where
-  fits-props : (r : PropertiesRead) → PropsRead len r → EnteredFits len (gotProps g r)
-  fits-props (PropertiesRead.Table t) h = record { props = λ e. h; metrics = f .metrics; bitmaps = f .bitmaps; codes = f .codes; names = f .names }
-  fits-props (PropertiesRead.Refused n) h = tt
+added-fits : (len : ℕ) (g : Gathered) → Fitting len g → (read : TableRead) → ReadFits len read → EnteredFits len (added g read)
+added-fits len g f (TableRead.Properties t) h = record { props = λ e. h; metrics = f .metrics; bitmaps = f .bitmaps; codes = f .codes; names = f .names }
+added-fits len g f (TableRead.Metrics t) h = record { props = f .props; metrics = λ e. h; bitmaps = f .bitmaps; codes = f .codes; names = f .names }
+added-fits len g f (TableRead.Bitmaps t) h = record { props = f .props; metrics = f .metrics; bitmaps = λ e. h; codes = f .codes; names = f .names }
+added-fits len g f (TableRead.Codes t) h = record { props = f .props; metrics = f .metrics; bitmaps = f .bitmaps; codes = λ e. h; names = f .names }
+added-fits len g f (TableRead.Names t) h = record { props = f .props; metrics = f .metrics; bitmaps = f .bitmaps; codes = f .codes; names = λ e. h }
+added-fits len g f (TableRead.Accelerators t) h = record { props = f .props; metrics = f .metrics; bitmaps = f .bitmaps; codes = f .codes; names = f .names }
+added-fits len g f TableRead.Other h = f
+added-fits len g f (TableRead.Refused n) h = tt
 
-  fits-accel : (r : AcceleratorRead) → EnteredFits len (gotAccel g r)
-  fits-accel (AcceleratorRead.Table t) = record { props = f .props; metrics = f .metrics; bitmaps = f .bitmaps; codes = f .codes; names = f .names }
-  fits-accel (AcceleratorRead.Refused n) = tt
-
-  fits-metrics : (r : MetricsRead) → MetricsTableRead len r → EnteredFits len (gotMetrics g r)
-  fits-metrics (MetricsRead.Table t) h = record { props = f .props; metrics = λ e. h; bitmaps = f .bitmaps; codes = f .codes; names = f .names }
-  fits-metrics (MetricsRead.Refused n) h = tt
-
-  fits-bitmaps : (r : BitmapRead) → BitmapsRead len r → EnteredFits len (gotBitmaps g r)
-  fits-bitmaps (BitmapRead.Table t) h = record { props = f .props; metrics = f .metrics; bitmaps = λ e. h; codes = f .codes; names = f .names }
-  fits-bitmaps (BitmapRead.Refused n) h = tt
-
-  fits-codes : (r : EncodingRead) → CodesRead len r → EnteredFits len (gotCodes g r)
-  fits-codes (EncodingRead.Table t) h = record { props = f .props; metrics = f .metrics; bitmaps = f .bitmaps; codes = λ e. h; names = f .names }
-  fits-codes (EncodingRead.Refused n) h = tt
-
-  fits-names : (r : GlyphNameRead) → NamesRead len r → EnteredFits len (gotNames g r)
-  fits-names (GlyphNameRead.Table t) h = record { props = f .props; metrics = f .metrics; bitmaps = f .bitmaps; codes = f .codes; names = λ e. h }
-  fits-names (GlyphNameRead.Refused n) h = tt
-
-module _ (s : List ℕ) (g : Gathered) (f : Fitting (length s) g) where
-  table-fits : (kind format at end : ℕ) → end ≤ length s → EnteredFits (length s) (tableOf s g kind format at end)
-  unfolding tableOf
-  table-fits kind format at end h =
-      let P = EnteredFits (length s) in
-      either P (eqb kind 1) (fits-props (length s) g f (propertiesAt s at end) (props-read s at end h))
-      (either P (eqb kind 2 || eqb kind 256) (fits-accel (length s) g f (acceleratorsAt s at end))
-      (either P (eqb kind 4) (fits-metrics (length s) g f (metricsAt s format at end) (metrics-read s at end h format))
-      (either P (eqb kind 8) (fits-bitmaps (length s) g f (bitmapsAt s at end) (bitmaps-read s at end h))
-      (either P (eqb kind 32) (fits-codes (length s) g f (codesAt s at end) (codes-read s at end h))
-      (either P (eqb kind 128) (fits-names (length s) g f (namesAt s at end) (names-read s at end h)) f)))))
-
-  entry-fits : (k : ℕ) → EnteredFits (length s) (entryAt s k g)
-  unfolding entryAt entryOf
-  entry-fits k =
-      let at = 8 + 16 * k in
-      let size = u32At false s (at + 8) in
-      let offset = u32At false s (at + 12) in
-      either (EnteredFits (length s)) (ltb (length s) offset) tt
-      (table-fits (u32At false s at) (u32At false s (at + 4)) offset (min (offset + size) (length s)) (omega arith))
+entry-fits : (s : List ℕ) (g : Gathered) → Fitting (length s) g → (k : ℕ) → EnteredFits (length s) (entryAt s k g)
+unfolding entryAt entryOf
+entry-fits s g f k =
+    let at = 8 + 16 * k in
+    let kind = u32At false s at in
+    let format = u32At false s (at + 4) in
+    let offset = u32At false s (at + 12) in
+    let end = min (offset + u32At false s (at + 8)) (length s) in
+    either (EnteredFits (length s)) (ltb (length s) offset) tt
+    (added-fits (length s) g f (tableAt s kind format offset end) (table-read s offset end (omega arith) kind format))
 
 -- what loading gives, with the bytes it was given
 abbrev LoadedFits : ℕ → Loaded → Type 0

@@ -1,25 +1,23 @@
 -- A table that was read from its bytes fits a record's test, with any file that holds those bytes.
 use mathlib.Core.Path.{_≡_, refl}
-use mathlib.Core.Bool.{true}
+use mathlib.Core.Bool.{true, _||_}
 use mathlib.Core.List.{List}
 use Prim.Native.Nat.{ℕ, zero, suc, _+_, _*_, _^_, _≤_, _<_}
 use native.Mathlib.Omega.{arith}
 use lib.ListN.{length}
-use lib.Dec.{ltb}
+use lib.Dec.{ltb, eqb}
 use borrow.Author.Tests.{le-leb, ltb-false}
-use Rattle.reads.proofs.Tests.{split}
+use Rattle.reads.proofs.Tests.{split, either, unless}
 use Rattle.tables.specs.Format.{formatAt, padCode}
 use Rattle.tables.specs.Properties.{propertiesTable, propertiesEnd, propertiesAt}
+use Rattle.tables.specs.Accelerators.{acceleratorsEnd, acceleratorsAt}
 use Rattle.tables.specs.Metrics.{metricsTable, metricsEnd, metricsAt}
 use Rattle.tables.specs.Bitmaps.{bitmapsTable, bitmapsEnd, bitmapsAt}
 use Rattle.tables.specs.Codes.{codesTable, codesEnd, codesAt}
 use Rattle.tables.specs.Names.{namesTable, namesEnd, namesAt}
 use Rattle.tables.specs.Fits.{padFits, propsFit, metricsFit, bitmapsFit, codesFit, namesFit}
-use Rattle.tables.specs.declared.PropertiesRead.{PropertiesRead}
-use Rattle.tables.specs.declared.MetricsRead.{MetricsRead}
-use Rattle.tables.specs.declared.BitmapRead.{BitmapRead}
-use Rattle.tables.specs.declared.EncodingRead.{EncodingRead}
-use Rattle.tables.specs.declared.GlyphNameRead.{GlyphNameRead}
+use Rattle.tables.specs.declared.TableRead.{TableRead}
+use Rattle.load.specs.Load.{tableAt}
 
 -- a row pad is 2 to a power below 4
 pads : (code : ℕ) → code < 4 → padFits (2 ^ code) ≡ true
@@ -63,60 +61,58 @@ module _ (s : List ℕ) (at end : ℕ) (in-file : end ≤ length s) where
       rw (le-leb (c .entries + c .size) (length s) (omega arith), le-leb (c .low2) (c .high2) l2, le-leb (c .low1) (c .high1) l1)
       (le-leb (c .size) (c .size) (omega arith))
 
--- what reading a table gives fits, where it is a table
-
-abbrev pub PropsRead : ℕ → PropertiesRead → Type 0
-PropsRead len (PropertiesRead.Table t) = propsFit len t ≡ true
-PropsRead len (PropertiesRead.Refused n) = Unit {0}
-
-abbrev pub MetricsTableRead : ℕ → MetricsRead → Type 0
-MetricsTableRead len (MetricsRead.Table t) = metricsFit len t ≡ true
-MetricsTableRead len (MetricsRead.Refused n) = Unit {0}
-
-abbrev pub BitmapsRead : ℕ → BitmapRead → Type 0
-BitmapsRead len (BitmapRead.Table t) = bitmapsFit len t ≡ true
-BitmapsRead len (BitmapRead.Refused n) = Unit {0}
-
-abbrev pub CodesRead : ℕ → EncodingRead → Type 0
-CodesRead len (EncodingRead.Table t) = codesFit len t ≡ true
-CodesRead len (EncodingRead.Refused n) = Unit {0}
-
-abbrev pub NamesRead : ℕ → GlyphNameRead → Type 0
-NamesRead len (GlyphNameRead.Table t) = namesFit len t ≡ true
-NamesRead len (GlyphNameRead.Refused n) = Unit {0}
+-- what reading a table gives fits, where it is a table; the accelerators have no region
+abbrev pub ReadFits : ℕ → TableRead → Type 0
+ReadFits len (TableRead.Properties t) = propsFit len t ≡ true
+ReadFits len (TableRead.Accelerators t) = Unit {0}
+ReadFits len (TableRead.Metrics t) = metricsFit len t ≡ true
+ReadFits len (TableRead.Bitmaps t) = bitmapsFit len t ≡ true
+ReadFits len (TableRead.Codes t) = codesFit len t ≡ true
+ReadFits len (TableRead.Names t) = namesFit len t ≡ true
+ReadFits len TableRead.Other = Unit {0}
+ReadFits len (TableRead.Refused n) = Unit {0}
 
 module _ (s : List ℕ) (at end : ℕ) (in-file : end ≤ length s) where
-  pub props-read : PropsRead (length s) (propertiesAt s at end)
+  abbrev Fits : TableRead → Type 0
+  Fits = ReadFits (length s)
+
+  props-read : Fits (propertiesAt s at end)
   unfolding propertiesAt
-  props-read =
-      let e = propertiesEnd (propertiesTable s at) in
-      split (ltb end e) (λ t. rw t tt) (λ t. rw t (props-fit s at end in-file (ltb-false end e t)))
+  props-read = unless Fits end (propertiesEnd (propertiesTable s at)) (λ l. tt) (props-fit s at end in-file)
 
-  pub metrics-read : (format : ℕ) → MetricsTableRead (length s) (metricsAt s format at end)
+  accelerators-read : Fits (acceleratorsAt s at end)
+  unfolding acceleratorsAt
+  accelerators-read = unless Fits end (acceleratorsEnd at) (λ l. tt) (λ l. tt)
+
+  metrics-read : (format : ℕ) → Fits (metricsAt s format at end)
   unfolding metricsAt
-  metrics-read format =
-      let e = metricsEnd (metricsTable s format at) in
-      split (ltb end e) (λ t. rw t tt) (λ t. rw t (metrics-fit s at end in-file format (ltb-false end e t)))
+  metrics-read format = unless Fits end (metricsEnd (metricsTable s format at)) (λ l. tt) (metrics-fit s at end in-file format)
 
-  pub bitmaps-read : BitmapsRead (length s) (bitmapsAt s at end)
+  bitmaps-read : Fits (bitmapsAt s at end)
   unfolding bitmapsAt
-  bitmaps-read =
-      let e = bitmapsEnd (bitmapsTable s at) in
-      split (ltb end e) (λ t. rw t tt) (λ t. rw t (bitmaps-fit s at end in-file (ltb-false end e t)))
+  bitmaps-read = unless Fits end (bitmapsEnd (bitmapsTable s at)) (λ l. tt) (bitmaps-fit s at end in-file)
 
-  pub names-read : NamesRead (length s) (namesAt s at end)
+  names-read : Fits (namesAt s at end)
   unfolding namesAt
-  names-read =
-      let e = namesEnd (namesTable s at) in
-      split (ltb end e) (λ t. rw t tt) (λ t. rw t (names-fit s at end in-file (ltb-false end e t)))
+  names-read = unless Fits end (namesEnd (namesTable s at)) (λ l. tt) (names-fit s at end in-file)
 
-  pub codes-read : CodesRead (length s) (codesAt s at end)
+  codes-read : Fits (codesAt s at end)
   unfolding codesAt
   codes-read =
       let c = codesTable s at in
-      split (ltb end (c .entries)) (λ t. rw t tt)
-      (λ t. split (ltb (c .high2) (c .low2)) (λ u. rw (t, u) tt)
-      (λ u. split (ltb (c .high1) (c .low1)) (λ v. rw (t, u, v) tt)
-      (λ v. split (ltb end (codesEnd c)) (λ w. rw (t, u, v, w) tt)
-      (λ w. rw (t, u, v, w)
-      (codes-fit s at end in-file (ltb-false (c .high2) (c .low2) u) (ltb-false (c .high1) (c .low1) v) (ltb-false end (codesEnd c) w))))))
+      unless Fits end (c .entries) (λ l. tt)
+      (λ l. split (ltb (c .high2) (c .low2)) (λ u. rw u tt)
+      (λ u. split (ltb (c .high1) (c .low1)) (λ v. rw (u, v) tt)
+      (λ v. rw (u, v)
+      (unless Fits end (codesEnd c) (λ m. tt)
+      (codes-fit s at end in-file (ltb-false (c .high2) (c .low2) u) (ltb-false (c .high1) (c .low1) v))))))
+
+  pub table-read : (kind format : ℕ) → Fits (tableAt s kind format at end)
+  unfolding tableAt
+  table-read kind format =
+      either Fits (eqb kind 1) props-read
+      (either Fits (eqb kind 2 || eqb kind 256) accelerators-read
+      (either Fits (eqb kind 4) (metrics-read format)
+      (either Fits (eqb kind 8) bitmaps-read
+      (either Fits (eqb kind 32) codes-read
+      (either Fits (eqb kind 128) names-read tt)))))

@@ -5,13 +5,8 @@ use mathlib.Core.Bool.{Bool, false, cond, _&&_, _||_}
 use lib.Dec.{eqb}
 use lib.IntN.{pos}
 use Rattle.reads.specs.Said.{refusal}
-use Rattle.tables.specs.declared.PropertiesRead.{PropertiesRead}
-use Rattle.tables.specs.declared.AcceleratorRead.{AcceleratorRead}
 use Rattle.tables.specs.declared.MetricsUnpacked.{MetricsUnpacked}
-use Rattle.tables.specs.declared.MetricsRead.{MetricsRead}
-use Rattle.tables.specs.declared.BitmapRead.{BitmapRead}
-use Rattle.tables.specs.declared.EncodingRead.{EncodingRead}
-use Rattle.tables.specs.declared.GlyphNameRead.{GlyphNameRead}
+use Rattle.tables.specs.declared.TableRead.{TableRead}
 use Rattle.tables.specs.declared.Record.{Record}
 use Rattle.load.specs.declared.Kinds.{Kinds}
 use Rattle.load.specs.declared.Gathered.{Gathered}
@@ -68,43 +63,28 @@ marked kind k = record {
 abbrev pub given : ℕ → Gathered → Record → Entered
 given kind g tables = Entered.Next (record { tables = tables; kinds = marked kind (g .kinds) })
 
--- each table that was read takes the place of an earlier one of its kind
-
-abbrev pub gotProps : Gathered → PropertiesRead → Entered
-gotProps g (PropertiesRead.Refused n) = Entered.Refused n
-gotProps g (PropertiesRead.Table t) =
+-- a table that was read takes the place of an earlier one of its kind; a table of another type changes nothing
+abbrev pub added : Gathered → TableRead → Entered
+added g (TableRead.Properties t) =
     let r = g .tables in
     given 1 g (record { props = t; accel = r .accel; metrics = r .metrics; bitmaps = r .bitmaps; codes = r .codes; names = r .names })
-
-abbrev pub gotAccel : Gathered → AcceleratorRead → Entered
-gotAccel g (AcceleratorRead.Refused n) = Entered.Refused n
-gotAccel g (AcceleratorRead.Table t) =
+added g (TableRead.Accelerators t) =
     let r = g .tables in
     given 2 g (record { props = r .props; accel = t; metrics = r .metrics; bitmaps = r .bitmaps; codes = r .codes; names = r .names })
-
-abbrev pub gotMetrics : Gathered → MetricsRead → Entered
-gotMetrics g (MetricsRead.Refused n) = Entered.Refused n
-gotMetrics g (MetricsRead.Table t) =
+added g (TableRead.Metrics t) =
     let r = g .tables in
     given 4 g (record { props = r .props; accel = r .accel; metrics = t; bitmaps = r .bitmaps; codes = r .codes; names = r .names })
-
-abbrev pub gotBitmaps : Gathered → BitmapRead → Entered
-gotBitmaps g (BitmapRead.Refused n) = Entered.Refused n
-gotBitmaps g (BitmapRead.Table t) =
+added g (TableRead.Bitmaps t) =
     let r = g .tables in
     given 8 g (record { props = r .props; accel = r .accel; metrics = r .metrics; bitmaps = t; codes = r .codes; names = r .names })
-
-abbrev pub gotCodes : Gathered → EncodingRead → Entered
-gotCodes g (EncodingRead.Refused n) = Entered.Refused n
-gotCodes g (EncodingRead.Table t) =
+added g (TableRead.Codes t) =
     let r = g .tables in
     given 32 g (record { props = r .props; accel = r .accel; metrics = r .metrics; bitmaps = r .bitmaps; codes = t; names = r .names })
-
-abbrev pub gotNames : Gathered → GlyphNameRead → Entered
-gotNames g (GlyphNameRead.Refused n) = Entered.Refused n
-gotNames g (GlyphNameRead.Table t) =
+added g (TableRead.Names t) =
     let r = g .tables in
     given 128 g (record { props = r .props; accel = r .accel; metrics = r .metrics; bitmaps = r .bitmaps; codes = r .codes; names = t })
+added g TableRead.Other = Entered.Next g
+added g (TableRead.Refused n) = Entered.Refused n
 
 -- "Six kinds must be present"
 abbrev pub allSix : Kinds → Bool

@@ -15,28 +15,29 @@ use Rattle.tables.specs.Bitmaps.{bitmapsAt}
 use Rattle.tables.specs.Codes.{codesAt}
 use Rattle.tables.specs.Names.{namesAt}
 use Rattle.tables.specs.Values.{recordValues}
-use Rattle.load.specs.Gather.{nothing, gotProps, gotAccel, gotMetrics, gotBitmaps, gotCodes, gotNames, finished}
+use Rattle.tables.specs.declared.TableRead.{TableRead}
+use Rattle.load.specs.Gather.{nothing, added, finished}
 use Rattle.load.specs.declared.Gathered.{Gathered}
 use Rattle.load.specs.declared.Entered.{Entered}
 use Rattle.load.specs.declared.Loaded.{Loaded}
 
--- a table of this type, with the directory's format, whose bytes run from `at` to `end`; an unknown type changes nothing
-unfoldable pub tableOf : List ℕ → Gathered → ℕ → ℕ → ℕ → ℕ → Entered
-tableOf s g kind format at end =
-    cond (eqb kind 1) (gotProps g (propertiesAt s at end))
-    (cond (eqb kind 2 || eqb kind 256) (gotAccel g (acceleratorsAt s at end))
-    (cond (eqb kind 4) (gotMetrics g (metricsAt s format at end))
-    (cond (eqb kind 8) (gotBitmaps g (bitmapsAt s at end))
-    (cond (eqb kind 32) (gotCodes g (codesAt s at end))
-    (cond (eqb kind 128) (gotNames g (namesAt s at end))
-    (Entered.Next g))))))
+-- a table of this type, with the directory's format, whose bytes run from `at` to `end`
+unfoldable pub tableAt : List ℕ → ℕ → ℕ → ℕ → ℕ → TableRead
+tableAt s kind format at end =
+    cond (eqb kind 1) (propertiesAt s at end)
+    (cond (eqb kind 2 || eqb kind 256) (acceleratorsAt s at end)
+    (cond (eqb kind 4) (metricsAt s format at end)
+    (cond (eqb kind 8) (bitmapsAt s at end)
+    (cond (eqb kind 32) (codesAt s at end)
+    (cond (eqb kind 128) (namesAt s at end)
+    TableRead.Other)))))
 
 -- an entry: 5, "an entry's offset exceeds the file length (unknown types too)"; else "the table's bytes run from offset for size
 -- bytes, cut at the file's end"
 unfoldable pub entryOf : List ℕ → Gathered → ℕ → ℕ → ℕ → ℕ → Entered
 entryOf s g kind format size offset =
     cond (ltb (length s) offset) (Entered.Refused 5)
-    (tableOf s g kind format offset (min (offset + size) (length s)))
+    (added g (tableAt s kind format offset (min (offset + size) (length s))))
 
 -- entry number k
 unfoldable pub entryAt : List ℕ → ℕ → Gathered → Entered

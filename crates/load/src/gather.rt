@@ -5,22 +5,17 @@ use crate::Gathered;
 use crate::Kinds;
 use crate::Loaded;
 use reads::Refusal;
-use tables::AcceleratorRead;
 use tables::AcceleratorUnpacked;
 use tables::BitmapData;
-use tables::BitmapRead;
 use tables::EncodingData;
-use tables::EncodingRead;
 use tables::GlyphNameData;
-use tables::GlyphNameRead;
 use tables::MetricsData;
-use tables::MetricsRead;
 use tables::MetricsUnpacked;
 use tables::PropertiesData;
-use tables::PropertiesRead;
 use tables::Record;
+use tables::TableRead;
 ghost use mathlib.Core.Path.{_≡_};
-ghost use Rattle.load.specs.Gather.{noMetrics, blank, nothing, gotProps, gotAccel, gotMetrics, gotBitmaps, gotCodes, gotNames, allSix, finished};
+ghost use Rattle.load.specs.Gather.{noMetrics, blank, nothing, added, allSix, finished};
 
 fn no_metrics() -> MetricsUnpacked
     ensures { λ r. ⌜ r ≡ noMetrics ⌝ }
@@ -117,111 +112,61 @@ pub(crate) fn nothing_yet() -> Gathered
     Gathered { tables, kinds }
 }
 
-pub(crate) fn got_props(g: Gathered, got: PropertiesRead) -> Entered
-    ensures { λ r. ⌜ r ≡ gotProps g got ⌝ }
+// What the directory has given with this table too.
+pub(crate) fn add(g: Gathered, read: TableRead) -> Entered
+    ensures { λ r. ⌜ r ≡ added g read ⌝ }
 {
-    match got {
-        PropertiesRead::Table(t) => {
+    match read {
+        TableRead::Properties(t) => {
             let mut r = g.tables;
             r.props = t;
-            let mut k = g.kinds;
-            k.props = true;
-            Entered::Next(Gathered {
-                tables: r,
-                kinds: k,
-            })
+            let mut h = g;
+            h.tables = r;
+            h.kinds.props = true;
+            Entered::Next(h)
         }
-        PropertiesRead::Refused(n) => Entered::Refused(n),
-    }
-}
-
-pub(crate) fn got_accel(g: Gathered, got: AcceleratorRead) -> Entered
-    ensures { λ r. ⌜ r ≡ gotAccel g got ⌝ }
-{
-    match got {
-        AcceleratorRead::Table(t) => {
+        TableRead::Accelerators(t) => {
             let mut r = g.tables;
             r.accel = t;
-            let mut k = g.kinds;
-            k.accel = true;
-            Entered::Next(Gathered {
-                tables: r,
-                kinds: k,
-            })
+            let mut h = g;
+            h.tables = r;
+            h.kinds.accel = true;
+            Entered::Next(h)
         }
-        AcceleratorRead::Refused(n) => Entered::Refused(n),
-    }
-}
-
-pub(crate) fn got_metrics(g: Gathered, got: MetricsRead) -> Entered
-    ensures { λ r. ⌜ r ≡ gotMetrics g got ⌝ }
-{
-    match got {
-        MetricsRead::Table(t) => {
+        TableRead::Metrics(t) => {
             let mut r = g.tables;
             r.metrics = t;
-            let mut k = g.kinds;
-            k.metrics = true;
-            Entered::Next(Gathered {
-                tables: r,
-                kinds: k,
-            })
+            let mut h = g;
+            h.tables = r;
+            h.kinds.metrics = true;
+            Entered::Next(h)
         }
-        MetricsRead::Refused(n) => Entered::Refused(n),
-    }
-}
-
-pub(crate) fn got_bitmaps(g: Gathered, got: BitmapRead) -> Entered
-    ensures { λ r. ⌜ r ≡ gotBitmaps g got ⌝ }
-{
-    match got {
-        BitmapRead::Table(t) => {
+        TableRead::Bitmaps(t) => {
             let mut r = g.tables;
             r.bitmaps = t;
-            let mut k = g.kinds;
-            k.bitmaps = true;
-            Entered::Next(Gathered {
-                tables: r,
-                kinds: k,
-            })
+            let mut h = g;
+            h.tables = r;
+            h.kinds.bitmaps = true;
+            Entered::Next(h)
         }
-        BitmapRead::Refused(n) => Entered::Refused(n),
-    }
-}
-
-pub(crate) fn got_codes(g: Gathered, got: EncodingRead) -> Entered
-    ensures { λ r. ⌜ r ≡ gotCodes g got ⌝ }
-{
-    match got {
-        EncodingRead::Table(t) => {
+        TableRead::Codes(t) => {
             let mut r = g.tables;
             r.codes = t;
-            let mut k = g.kinds;
-            k.codes = true;
-            Entered::Next(Gathered {
-                tables: r,
-                kinds: k,
-            })
+            let mut h = g;
+            h.tables = r;
+            h.kinds.codes = true;
+            Entered::Next(h)
         }
-        EncodingRead::Refused(n) => Entered::Refused(n),
-    }
-}
-
-pub(crate) fn got_names(g: Gathered, got: GlyphNameRead) -> Entered
-    ensures { λ r. ⌜ r ≡ gotNames g got ⌝ }
-{
-    match got {
-        GlyphNameRead::Table(t) => {
+        TableRead::Names(t) => {
             let mut r = g.tables;
             r.names = t;
-            let mut k = g.kinds;
-            k.names = true;
-            Entered::Next(Gathered {
-                tables: r,
-                kinds: k,
-            })
+            let mut h = g;
+            h.tables = r;
+            h.kinds.names = true;
+            Entered::Next(h)
         }
-        GlyphNameRead::Refused(n) => Entered::Refused(n),
+        TableRead::Other => Entered::Next(g),
+        TableRead::Refused(n) => Entered::Refused(n),
     }
 }
 

@@ -1,17 +1,13 @@
 // Loading: the directory and the tables it names, to a record or a refusal from 1 to 8.
 mod gather;
 
+use crate::gather::add;
 use crate::gather::finish;
-use crate::gather::got_accel;
-use crate::gather::got_bitmaps;
-use crate::gather::got_codes;
-use crate::gather::got_metrics;
-use crate::gather::got_names;
-use crate::gather::got_props;
 use crate::gather::nothing_yet;
 use reads::Refusal;
 use reads::u32_at;
 use tables::Record;
+use tables::TableRead;
 use tables::accelerators_at;
 use tables::bitmaps_at;
 use tables::codes_at;
@@ -21,7 +17,7 @@ use tables::properties_at;
 ghost use mathlib.Core.Path.{_≡_};
 ghost use Prim.Native.Nat.{_≤_, _<_, min};
 ghost use Rattle.load.specs.Gather.{nothing};
-ghost use Rattle.load.specs.Load.{tableOf, entryOf, entryAt, entriesFrom, loaded};
+ghost use Rattle.load.specs.Load.{tableAt, entryOf, entryAt, entriesFrom, loaded};
 
 // What loading a file gives: the font's record, to be used with the same bytes.
 pub enum Loaded {
@@ -57,33 +53,33 @@ fn lesser_of(a: usize, b: usize) -> usize
     if a <= b { a } else { b }
 }
 
-// A table of a type that the library reads, whose bytes run from `at` to `end`; any other type
-// changes nothing.
-fn table_of(s: &[u8], g: Gathered, kind: u32, format: u32, at: u32, end: usize) -> Entered
-    ensures { λ r. ⌜ r ≡ tableOf (now (s .entry)) g kind format at end ⌝ }
+// The table of an entry of this type, whose bytes run from `at` to `end`; `format` is the
+// directory's.
+fn table_at(s: &[u8], kind: u32, format: u32, at: u32, end: usize) -> TableRead
+    ensures { λ r. ⌜ r ≡ tableAt (now (s .entry)) kind format at end ⌝ }
 {
     if kind == 1 {
-        return got_props(g, properties_at(s, at, end));
+        return properties_at(s, at, end);
     }
     if kind == 2 {
-        return got_accel(g, accelerators_at(s, at, end));
+        return accelerators_at(s, at, end);
     }
     if kind == 256 {
-        return got_accel(g, accelerators_at(s, at, end));
+        return accelerators_at(s, at, end);
     }
     if kind == 4 {
-        return got_metrics(g, metrics_at(s, format, at, end));
+        return metrics_at(s, format, at, end);
     }
     if kind == 8 {
-        return got_bitmaps(g, bitmaps_at(s, at, end));
+        return bitmaps_at(s, at, end);
     }
     if kind == 32 {
-        return got_codes(g, codes_at(s, at, end));
+        return codes_at(s, at, end);
     }
     if kind == 128 {
-        return got_names(g, names_at(s, at, end));
+        return names_at(s, at, end);
     }
-    Entered::Next(g)
+    TableRead::Other
 }
 
 // An entry's numbers: 5 for an offset past the file; else its table, cut at the file's end.
@@ -94,7 +90,7 @@ fn entry_of(s: &[u8], g: Gathered, kind: u32, format: u32, size: u32, offset: u3
         return Entered::Refused(5);
     }
     let end = lesser_of(offset as usize + size as usize, s.len());
-    table_of(s, g, kind, format, offset, end)
+    add(g, table_at(s, kind, format, offset, end))
 }
 
 // What entry number `k` makes of what the directory has given before it.

@@ -6,12 +6,13 @@ use native.Mathlib.Nat.{mul-le-mul, mul-comm, mul-one, suc-mul}
 use native.Mathlib.Numerals.{add-one}
 use native.Mathlib.Omega.{arith}
 use lib.Dec.{leb, ltb}
-use borrow.Author.Tests.{leb-true}
+use borrow.Author.Tests.{leb-true, le-leb}
 use Rattle.reads.specs.Range.{between}
 use Rattle.reads.proofs.Tests.{split, either, both}
 use Rattle.tables.specs.Codes.{entryCount}
 use Rattle.tables.specs.Fits.{inside, codesFit}
 use Rattle.tables.specs.declared.EncodingData.{EncodingData}
+use Rattle.tables.proofs.Items.{item-inside}
 use Rattle.lookup.specs.Lookup.{oneByte, slotWhole, slotBytes, slotOf}
 use Rattle.lookup.specs.declared.Slot.{Slot}
 
@@ -70,4 +71,6 @@ module _ (c : EncodingData) (code : ℕ) where
       let (up-to-second, first) = both (region && leb (c .low2) (c .high2)) (leb (c .low1) (c .high1)) up-to-bounds in
       let (in-bytes, second) = both region (leb (c .low2) (c .high2)) up-to-second in
       let known : i < entries c = subst (Known c) at slot-known in
-      omega (arith, leb-true (2 * entries c) (c .size) room, leb-true (c .entries + c .size) len in-bytes)
+      let whole : inside len (c .entries) (2 * entries c) ≡ true =
+      le-leb (c .entries + 2 * entries c) len (omega (arith, leb-true (2 * entries c) (c .size) room, leb-true (c .entries + c .size) len in-bytes)) in
+      item-inside len (c .entries) 2 (entries c) i whole known

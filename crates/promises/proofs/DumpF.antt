@@ -8,7 +8,7 @@ use Rattle.tables.specs.Bitmaps.{bitmapsTable, bitmapsAt}
 use Rattle.tables.specs.Codes.{codesTable, codesAt}
 use Rattle.tables.specs.Names.{namesTable, namesAt}
 use Rattle.load.specs.Gather.{finished}
-use Rattle.load.specs.Load.{tableOf, entryOf, entryAt, entriesFrom, loaded}
+use Rattle.load.specs.Load.{tableAt, entryOf, entryAt, entriesFrom, loaded}
 use Rattle.lookup.specs.Lookup.{slotOf, glyphOf}
 use Rattle.metrics.specs.Measure.{metricsOf}
 use Rattle.names.specs.Strings.{zeroFrom, stringAt}
@@ -31,7 +31,7 @@ use Rattle.promises.specs.FontF.{linesF, framesF}
 pub dump-F : dumped (typedLines linesF) ≡ typedLines framesF
 unfolding linesF framesF typed typedLines hexBytes linesOf digitOf goodLine bytesFrom hexRead digits numAt signed
     less128 propertiesTable propertiesAt acceleratorsTable acceleratorsAt wideAt narrowAt metricsTable metricsAt
-    bitmapsTable bitmapsAt codesTable codesAt namesTable namesAt finished tableOf entryOf entryAt entriesFrom loaded
+    bitmapsTable bitmapsAt codesTable codesAt namesTable namesAt finished tableAt entryOf entryAt entriesFrom loaded
     slotOf glyphOf metricsOf zeroFrom stringAt nameOf propOf some bytesPast rowsShort boundsHold placeable infoOf
     firstFault codeFault vetRecord vetted hexDigit field frame frameOf framesFrom dumped offsetOf propFault boxFault
     allDigits pairs allPairs hexAll rowFrom rowsFrom

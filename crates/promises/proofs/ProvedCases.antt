@@ -9,7 +9,7 @@ use Rattle.tables.specs.Codes.{codesTable, codesAt}
 use Rattle.tables.specs.Names.{namesTable, namesAt}
 use Rattle.tables.specs.Fits.{propsFit, metricsFit, bitmapsFit, codesFit, namesFit, recordFits}
 use Rattle.load.specs.Gather.{finished}
-use Rattle.load.specs.Load.{tableOf, entryOf, entryAt, entriesFrom, loaded}
+use Rattle.load.specs.Load.{tableAt, entryOf, entryAt, entriesFrom, loaded}
 use Rattle.lookup.specs.Lookup.{slotOf, glyphOf, getGlyph}
 use Rattle.metrics.specs.Measure.{metricsOf, getMetrics}
 use Rattle.bitmaps.specs.Paint.{some, painted}
@@ -36,7 +36,7 @@ pub proved-cases : Holds table
 unfolding table seen asked F linesF typed typedLines hexBytes linesOf digitOf digits numAt signed less128
     propertiesTable propertiesAt acceleratorsTable acceleratorsAt wideAt narrowAt metricsTable metricsAt bitmapsTable
     bitmapsAt codesTable codesAt namesTable namesAt propsFit metricsFit bitmapsFit codesFit namesFit recordFits finished
-    tableOf entryOf entryAt entriesFrom loaded slotOf glyphOf getGlyph metricsOf getMetrics some painted bitAt bytesPast
+    tableAt entryOf entryAt entriesFrom loaded slotOf glyphOf getGlyph metricsOf getMetrics some painted bitAt bytesPast
     someDot rowsShort glyphBit shownAt boundsHold placeable infoOf prepared glyphDrawn drawChar find leadOf leads longer
     stepAt decodeFrom decoded placed textFrom inText drawString offsetOf wrapped placedDrawn pairs allPairs
 proved-cases = (refl, (refl, (refl, (refl, (refl, (refl, (refl, (refl, (refl, (refl, tt))))))))))

@@ -1,12 +1,12 @@
 -- The laws of signed readings, over the width, and of the compressed metric byte.
 use mathlib.Core.Path.{_≡_, refl, subst, sym, ap, _∙_}
 use mathlib.Core.Bool.{Bool, true, false, cond}
-use Prim.Native.Nat.{ℕ, zero, suc, _-_, _^_, _≤_, _<_}
+use Prim.Native.Nat.{ℕ, zero, suc, _-_, _*_, _^_, _≤_, _<_}
 use native.Mathlib.Omega.{arith}
 use lib.Dec.{ltb}
 use lib.IntN.{ℤ, pos, negsuc, _-ℤ_}
 use lib.Signed.{mag}
-use mir.Syntax.{Width, w16, w32}
+use mir.Syntax.{Width, w16}
 use mir.Val.{SFits, toZ, ofZ, bits, hbits, sel}
 use mir.ValLaws.{pow-bits}
 use mir.Facts.{toZ-pos, toZ-ofZ, sfits-toZ}
@@ -22,13 +22,10 @@ same-choice : (t : Bool) (x y : ℤ) → sel t x y ≡ cond t x y
 same-choice true x y = refl
 same-choice false x y = refl
 
-pub signed-16 : (n : ℕ) → toZ w16 n ≡ signed 2 n
+-- the machine's reading of a number of `b` bytes as signed is the definition's
+pub signed-is : (w : Width) (b n : ℕ) → bits w ≡ 8 * b → hbits w ≡ 8 * b - 1 → toZ w n ≡ signed b n
 unfolding signed
-signed-16 n = same-choice (ltb n 32768) (pos n) (negsuc (65536 - suc n))
-
-pub signed-32 : (n : ℕ) → toZ w32 n ≡ signed 4 n
-unfolding signed
-signed-32 n = same-choice (ltb n 2147483648) (pos n) (negsuc (4294967296 - suc n))
+signed-is w b n whole half = rw (← half, ← whole) (same-choice (ltb n (2 ^ hbits w)) (pos n) (negsuc (2 ^ bits w - suc n)))
 
 minus-one-less : (m : ℕ) → negsuc 0 -ℤ pos m ≡ negsuc m
 minus-one-less zero = refl

@@ -1,9 +1,9 @@
 -- The laws of tests: a test by subtraction is the test of the whole sum, and what a test's answer tells.
 use mathlib.Core.Path.{_≡_, refl, sym, subst, _∙_}
 use mathlib.Core.Bool.{Bool, true, false, cond, _&&_}
-use Prim.Native.Nat.{ℕ, _≤_}
-use lib.Dec.{T, leb}
-use borrow.Author.Tests.{leb-true, le-leb}
+use Prim.Native.Nat.{ℕ, _≤_, _<_}
+use lib.Dec.{T, leb, ltb}
+use borrow.Author.Tests.{leb-true, le-leb, ltb-true, ltb-false}
 
 pub never : {P : Type 0} → false ≡ true → P
 never e = absurd (subst T (sym e) tt)
@@ -29,3 +29,7 @@ either P false p q = q
 pub both : (a b : Bool) → (a && b) ≡ true → (a ≡ true) × (b ≡ true)
 both true b e = (refl, e)
 both false b e = never e
+
+-- a choice by a comparison has what each side has under its outcome
+pub unless {ℓ m} : {A : Type ℓ} (P : A → Type m) (a b : ℕ) {x y : A} → (a < b → P x) → (b ≤ a → P y) → P (cond (ltb a b) x y)
+unless P a b f g = split (ltb a b) (λ t. rw t (f (ltb-true a b t))) (λ t. rw t (g (ltb-false a b t)))

@@ -8,7 +8,7 @@ use Rattle.reads.specs.Num.{byteAt, i32At}
 use Rattle.tables.specs.Format.{formatAt, bigBit}
 use Rattle.tables.specs.Metrics.{wideAt}
 use Rattle.tables.specs.declared.AcceleratorUnpacked.{AcceleratorUnpacked}
-use Rattle.tables.specs.declared.AcceleratorRead.{AcceleratorRead}
+use Rattle.tables.specs.declared.TableRead.{TableRead}
 
 -- the table that begins at `at`, as its numbers say
 unfoldable pub acceleratorsTable : List ℕ → ℕ → AcceleratorUnpacked
@@ -37,5 +37,5 @@ abbrev pub acceleratorsEnd : ℕ → ℕ
 acceleratorsEnd at = at + 48
 
 -- 6 where "a known table's contents run past its bytes", which end at `end`
-unfoldable pub acceleratorsAt : List ℕ → ℕ → ℕ → AcceleratorRead
-acceleratorsAt s at end = cond (ltb end (acceleratorsEnd at)) (AcceleratorRead.Refused 6) (AcceleratorRead.Table (acceleratorsTable s at))
+unfoldable pub acceleratorsAt : List ℕ → ℕ → ℕ → TableRead
+acceleratorsAt s at end = cond (ltb end (acceleratorsEnd at)) (TableRead.Refused 6) (TableRead.Accelerators (acceleratorsTable s at))

@@ -7,7 +7,7 @@ use lib.Dec.{ltb}
 use Rattle.reads.specs.Num.{u32At}
 use Rattle.tables.specs.Format.{formatAt, bigBit, topBit, padCode, padOf, unitCode}
 use Rattle.tables.specs.declared.BitmapData.{BitmapData}
-use Rattle.tables.specs.declared.BitmapRead.{BitmapRead}
+use Rattle.tables.specs.declared.TableRead.{TableRead}
 
 -- the table that begins at `at`, as its numbers say
 unfoldable pub bitmapsTable : List ℕ → ℕ → BitmapData
@@ -32,7 +32,7 @@ abbrev pub bitmapsEnd : BitmapData → ℕ
 bitmapsEnd b = b .bits + b .size
 
 -- 6 where "a known table's contents run past its bytes", which end at `end`
-unfoldable pub bitmapsAt : List ℕ → ℕ → ℕ → BitmapRead
+unfoldable pub bitmapsAt : List ℕ → ℕ → ℕ → TableRead
 bitmapsAt s at end =
     let b = bitmapsTable s at in
-    cond (ltb end (bitmapsEnd b)) (BitmapRead.Refused 6) (BitmapRead.Table b)
+    cond (ltb end (bitmapsEnd b)) (TableRead.Refused 6) (TableRead.Bitmaps b)

@@ -7,7 +7,7 @@ use lib.Dec.{ltb}
 use Rattle.reads.specs.Num.{u16At}
 use Rattle.tables.specs.Format.{formatAt, bigBit}
 use Rattle.tables.specs.declared.EncodingData.{EncodingData}
-use Rattle.tables.specs.declared.EncodingRead.{EncodingRead}
+use Rattle.tables.specs.declared.TableRead.{TableRead}
 
 -- how many entries bounds make: (high2 - low2 + 1)(high1 - low1 + 1)
 abbrev pub entryCount : ℕ → ℕ → ℕ → ℕ → ℕ
@@ -37,10 +37,10 @@ abbrev pub codesEnd : EncodingData → ℕ
 codesEnd c = c .entries + c .size
 
 -- of a table whose bytes run from `at` to `end`: "6 for its header, 7, 6 for the rest"
-unfoldable pub codesAt : List ℕ → ℕ → ℕ → EncodingRead
+unfoldable pub codesAt : List ℕ → ℕ → ℕ → TableRead
 codesAt s at end =
     let c = codesTable s at in
-    cond (ltb end (c .entries)) (EncodingRead.Refused 6)
-    (cond (ltb (c .high2) (c .low2) || ltb (c .high1) (c .low1)) (EncodingRead.Refused 7)
-    (cond (ltb end (codesEnd c)) (EncodingRead.Refused 6)
-    (EncodingRead.Table c)))
+    cond (ltb end (c .entries)) (TableRead.Refused 6)
+    (cond (ltb (c .high2) (c .low2) || ltb (c .high1) (c .low1)) (TableRead.Refused 7)
+    (cond (ltb end (codesEnd c)) (TableRead.Refused 6)
+    (TableRead.Codes c)))

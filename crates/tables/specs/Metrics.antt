@@ -8,7 +8,7 @@ use Rattle.reads.specs.Num.{byteAt, u16At, u32At, i16At, less128}
 use Rattle.tables.specs.Format.{bigBit, compressedBit}
 use Rattle.tables.specs.declared.MetricsUnpacked.{MetricsUnpacked}
 use Rattle.tables.specs.declared.MetricsData.{MetricsData}
-use Rattle.tables.specs.declared.MetricsRead.{MetricsRead}
+use Rattle.tables.specs.declared.TableRead.{TableRead}
 
 -- a record of 12 bytes
 unfoldable pub wideAt : Bool → List ℕ → ℕ → MetricsUnpacked
@@ -58,7 +58,7 @@ abbrev pub metricsEnd : MetricsData → ℕ
 metricsEnd m = m .records + metricBytes (m .compressed) * m .count
 
 -- 6 where "a known table's contents run past its bytes", which end at `end`
-unfoldable pub metricsAt : List ℕ → ℕ → ℕ → ℕ → MetricsRead
+unfoldable pub metricsAt : List ℕ → ℕ → ℕ → ℕ → TableRead
 metricsAt s format at end =
     let m = metricsTable s format at in
-    cond (ltb end (metricsEnd m)) (MetricsRead.Refused 6) (MetricsRead.Table m)
+    cond (ltb end (metricsEnd m)) (TableRead.Refused 6) (TableRead.Metrics m)

@@ -6,7 +6,7 @@ use lib.Dec.{ltb}
 use Rattle.reads.specs.Num.{u32At}
 use Rattle.tables.specs.Format.{formatAt, bigBit}
 use Rattle.tables.specs.declared.GlyphNameData.{GlyphNameData}
-use Rattle.tables.specs.declared.GlyphNameRead.{GlyphNameRead}
+use Rattle.tables.specs.declared.TableRead.{TableRead}
 
 -- the table that begins at `at`, as its numbers say
 unfoldable pub namesTable : List ℕ → ℕ → GlyphNameData
@@ -21,7 +21,7 @@ abbrev pub namesEnd : GlyphNameData → ℕ
 namesEnd n = n .strings + n .size
 
 -- 6 where "a known table's contents run past its bytes", which end at `end`
-unfoldable pub namesAt : List ℕ → ℕ → ℕ → GlyphNameRead
+unfoldable pub namesAt : List ℕ → ℕ → ℕ → TableRead
 namesAt s at end =
     let n = namesTable s at in
-    cond (ltb end (namesEnd n)) (GlyphNameRead.Refused 6) (GlyphNameRead.Table n)
+    cond (ltb end (namesEnd n)) (TableRead.Refused 6) (TableRead.Names n)

@@ -7,7 +7,7 @@ use lib.Dec.{ltb}
 use Rattle.reads.specs.Num.{u32At}
 use Rattle.tables.specs.Format.{formatAt, bigBit}
 use Rattle.tables.specs.declared.PropertiesData.{PropertiesData}
-use Rattle.tables.specs.declared.PropertiesRead.{PropertiesRead}
+use Rattle.tables.specs.declared.TableRead.{TableRead}
 
 -- "padding to a multiple of 4"
 abbrev pub padded4 : ℕ → ℕ
@@ -26,7 +26,7 @@ abbrev pub propertiesEnd : PropertiesData → ℕ
 propertiesEnd p = p .strings + p .size
 
 -- 6 where "a known table's contents run past its bytes", which end at `end`
-unfoldable pub propertiesAt : List ℕ → ℕ → ℕ → PropertiesRead
+unfoldable pub propertiesAt : List ℕ → ℕ → ℕ → TableRead
 propertiesAt s at end =
     let p = propertiesTable s at in
-    cond (ltb end (propertiesEnd p)) (PropertiesRead.Refused 6) (PropertiesRead.Table p)
+    cond (ltb end (propertiesEnd p)) (TableRead.Refused 6) (TableRead.Properties p)

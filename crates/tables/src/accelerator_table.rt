@@ -1,6 +1,6 @@
 // The accelerators: 48 bytes.
-use crate::AcceleratorRead;
 use crate::AcceleratorUnpacked;
+use crate::TableRead;
 use crate::format::big_bit;
 use crate::format::format_at;
 use crate::measures::wide_at;
@@ -47,12 +47,12 @@ fn accelerators_table(s: &[u8], at: usize) -> AcceleratorUnpacked
 }
 
 // The table that begins at `at` and whose bytes end at `end`; 6 where its contents run past them.
-pub fn accelerators_at(s: &[u8], at: u32, end: usize) -> AcceleratorRead
+pub fn accelerators_at(s: &[u8], at: u32, end: usize) -> TableRead
     ensures { λ r. ⌜ r ≡ acceleratorsAt (now (s .entry)) at end ⌝ }
 {
     let start = at as usize;
     if end < start + 48 {
-        return AcceleratorRead::Refused(6);
+        return TableRead::Refused(6);
     }
-    AcceleratorRead::Table(accelerators_table(s, start))
+    TableRead::Accelerators(accelerators_table(s, start))
 }

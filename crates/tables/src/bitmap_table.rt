@@ -1,6 +1,6 @@
 // The bitmap table: format, count, offsets, four sizes, the data.
 use crate::BitmapData;
-use crate::BitmapRead;
+use crate::TableRead;
 use crate::format::big_bit;
 use crate::format::format_at;
 use crate::format::pad_code;
@@ -12,7 +12,7 @@ ghost use mathlib.Core.Path.{_≡_};
 ghost use Rattle.tables.specs.Bitmaps.{bitmapsAt};
 
 // The table that begins at `at` and whose bytes end at `end`; 6 where its contents run past them.
-pub fn bitmaps_at(s: &[u8], at: u32, end: usize) -> BitmapRead
+pub fn bitmaps_at(s: &[u8], at: u32, end: usize) -> TableRead
     ensures { λ r. ⌜ r ≡ bitmapsAt (now (s .entry)) at end ⌝ }
 {
     let start = at as usize;
@@ -23,12 +23,12 @@ pub fn bitmaps_at(s: &[u8], at: u32, end: usize) -> BitmapRead
     let size = u32_at(s, sizes, 4 * pad_code(format), big) as usize;
     let bits = sizes + 16;
     if end < bits + size {
-        return BitmapRead::Refused(6);
+        return TableRead::Refused(6);
     }
     let pad = pad_of(format);
     let unit = unit_code(format);
     let top = top_bit(format);
-    BitmapRead::Table(BitmapData {
+    TableRead::Bitmaps(BitmapData {
         big,
         count,
         offsets: start + 8,

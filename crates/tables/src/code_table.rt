@@ -1,6 +1,6 @@
 // The code table: format, the bounds of the two bytes, the default code, an entry for each code.
 use crate::EncodingData;
-use crate::EncodingRead;
+use crate::TableRead;
 use crate::format::big_bit;
 use crate::format::format_at;
 use reads::u16_at;
@@ -29,12 +29,12 @@ pub(crate) fn entry_count(low2: u16, high2: u16, low1: u16, high1: u16) -> usize
 
 // The table that begins at `at` and whose bytes end at `end`: 6 where its header runs past them, 7
 // for a minimum above its maximum, then 6 for the entries.
-pub fn codes_at(s: &[u8], at: u32, end: usize) -> EncodingRead
+pub fn codes_at(s: &[u8], at: u32, end: usize) -> TableRead
     ensures { λ r. ⌜ r ≡ codesAt (now (s .entry)) at end ⌝ }
 {
     let start = at as usize;
     if end < start + 14 {
-        return EncodingRead::Refused(6);
+        return TableRead::Refused(6);
     }
     let big = big_bit(format_at(s, start));
     let low2 = u16_at(s, start, 4, big);
@@ -42,18 +42,18 @@ pub fn codes_at(s: &[u8], at: u32, end: usize) -> EncodingRead
     let low1 = u16_at(s, start, 8, big);
     let high1 = u16_at(s, start, 10, big);
     if high2 < low2 {
-        return EncodingRead::Refused(7);
+        return TableRead::Refused(7);
     }
     if high1 < low1 {
-        return EncodingRead::Refused(7);
+        return TableRead::Refused(7);
     }
     let entries = start + 14;
     let size = 2 * entry_count(low2, high2, low1, high1);
     if end < entries + size {
-        return EncodingRead::Refused(6);
+        return TableRead::Refused(6);
     }
     let default = u16_at(s, start, 12, big);
-    EncodingRead::Table(EncodingData {
+    TableRead::Codes(EncodingData {
         big,
         low2,
         high2,

@@ -127,34 +127,15 @@ pub struct Record {
     pub names: GlyphNameData,
 }
 
-// What reading a table from its bytes gives: the table, or the refusal's number, 6 or 7.
-
-pub enum PropertiesRead {
-    Table(PropertiesData),
-    Refused(u8),
-}
-
-pub enum AcceleratorRead {
-    Table(AcceleratorUnpacked),
-    Refused(u8),
-}
-
-pub enum MetricsRead {
-    Table(MetricsData),
-    Refused(u8),
-}
-
-pub enum BitmapRead {
-    Table(BitmapData),
-    Refused(u8),
-}
-
-pub enum EncodingRead {
-    Table(EncodingData),
-    Refused(u8),
-}
-
-pub enum GlyphNameRead {
-    Table(GlyphNameData),
+// What reading a table from its bytes gives: the table, or the refusal's number, 6 or 7. `Other` is
+// a table of a type that is not read.
+pub enum TableRead {
+    Properties(PropertiesData),
+    Accelerators(AcceleratorUnpacked),
+    Metrics(MetricsData),
+    Bitmaps(BitmapData),
+    Codes(EncodingData),
+    Names(GlyphNameData),
+    Other,
     Refused(u8),
 }

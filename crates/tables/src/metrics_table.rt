@@ -1,6 +1,6 @@
 // The metrics table. Its byte order and the form of its records are the directory's to say.
 use crate::MetricsData;
-use crate::MetricsRead;
+use crate::TableRead;
 use crate::format::big_bit;
 use crate::format::compressed_bit;
 use reads::u16_at;
@@ -37,7 +37,7 @@ fn metric_count(s: &[u8], at: usize, compressed: bool, big: bool) -> u32
 
 // The table that begins at `at` and whose bytes end at `end`; 6 where its contents run past them.
 // `format` is the directory's.
-pub fn metrics_at(s: &[u8], format: u32, at: u32, end: usize) -> MetricsRead
+pub fn metrics_at(s: &[u8], format: u32, at: u32, end: usize) -> TableRead
     ensures { λ r. ⌜ r ≡ metricsAt (now (s .entry)) format at end ⌝ }
 {
     let start = at as usize;
@@ -46,9 +46,9 @@ pub fn metrics_at(s: &[u8], format: u32, at: u32, end: usize) -> MetricsRead
     let count = metric_count(s, start, compressed, big);
     let records = start + metrics_from(compressed);
     if end < records + metric_bytes(compressed) * (count as usize) {
-        return MetricsRead::Refused(6);
+        return TableRead::Refused(6);
     }
-    MetricsRead::Table(MetricsData {
+    TableRead::Metrics(MetricsData {
         big,
         compressed,
         count,

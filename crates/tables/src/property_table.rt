@@ -1,6 +1,6 @@
 // The property table: format, count, 9 bytes for each, padding to 4, string size, strings.
 use crate::PropertiesData;
-use crate::PropertiesRead;
+use crate::TableRead;
 use crate::format::big_bit;
 use crate::format::format_at;
 use reads::u32_at;
@@ -18,7 +18,7 @@ fn padded_4(n: usize) -> usize
 }
 
 // The table that begins at `at` and whose bytes end at `end`; 6 where its contents run past them.
-pub fn properties_at(s: &[u8], at: u32, end: usize) -> PropertiesRead
+pub fn properties_at(s: &[u8], at: u32, end: usize) -> TableRead
     ensures { λ r. ⌜ r ≡ propertiesAt (now (s .entry)) at end ⌝ }
 {
     let start = at as usize;
@@ -28,9 +28,9 @@ pub fn properties_at(s: &[u8], at: u32, end: usize) -> PropertiesRead
     let size = u32_at(s, start, before, big) as usize;
     let strings = start + before + 4;
     if end < strings + size {
-        return PropertiesRead::Refused(6);
+        return TableRead::Refused(6);
     }
-    PropertiesRead::Table(PropertiesData {
+    TableRead::Properties(PropertiesData {
         big,
         count,
         records: start + 8,

@@ -1,7 +1,7 @@
-use Rattle.reads.proofs.Signed.{half-fits, half-is, signed-32}
+use Rattle.reads.proofs.Signed.{half-fits, half-is, signed-is}
 use Rattle.reads.specs.Num.{signed}
 use mir.Syntax.{w32}
-use mathlib.Core.Path.{_∙_, ap}
+use mathlib.Core.Path.{refl, _∙_, ap}
 use borrow.Author.Needs.{needs}
 use Rattle.reads.proofs.i32_at.Statement.{statement}
 use Rattle.reads.proofs.i32_at.Tie as tie
@@ -28,11 +28,11 @@ sub-result c = half-fits w32 (c .before .number-at .result) (c .if1 .left) (c .b
 
 -- src/lib.rt:127:1
 returns : tie.Need-returns
-returns c = signed-32 (c .before .number-at .result) ∙ ap (signed 4) (c .before .number-at .ensures .0)
+returns c = signed-is w32 4 (c .before .number-at .result) refl refl ∙ ap (signed 4) (c .before .number-at .ensures .0)
 
 -- src/lib.rt:127:1
 returns-2 : tie.Need-returns-2
-returns-2 c = half-is w32 (c .before .number-at .result) (c .if1 .left) (c .before .number-at .ensures .1) ∙ signed-32 (c .before .number-at .result) ∙ ap (signed 4) (c .before .number-at .ensures .0)
+returns-2 c = half-is w32 (c .before .number-at .result) (c .if1 .left) (c .before .number-at .ensures .1) ∙ signed-is w32 4 (c .before .number-at .result) refl refl ∙ ap (signed 4) (c .before .number-at .ensures .0)
 
 pub i32-at-spec : {M : Type 1} → statement M
 i32-at-spec =

@@ -2,15 +2,15 @@ use borrow.Author.Needs.{needs}
 use Rattle.load.proofs.gather.no_accelerators.Statement.{statement}
 use Rattle.load.proofs.gather.no_accelerators.Tie as tie
 
--- src/gather.rt:41:9
+-- src/gather.rt:36:9
 no-metrics-requires : tie.Need-no-metrics-requires
 no-metrics-requires c κs = search needs
 
--- src/gather.rt:42:9
+-- src/gather.rt:37:9
 no-metrics-requires-2 : tie.Need-no-metrics-requires-2
 no-metrics-requires-2 c κs = search needs
 
--- src/gather.rt:38:1
+-- src/gather.rt:33:1
 returns : tie.Need-returns
 returns c = rw (c .before .no-metrics .ensures, c .no-metrics2 .ensures)
 
