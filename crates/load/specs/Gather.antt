@@ -1,8 +1,6 @@
 -- What the directory has given so far, and what a table adds to it. From document 01: "A repeated type is checked each time and
 -- the last one serves; types 2 and 256 both give the accelerators. Six kinds must be present."
-use Prim.Native.Nat.{ℕ}
-use mathlib.Core.Bool.{Bool, false, cond, _&&_, _||_}
-use lib.Dec.{eqb}
+use mathlib.Core.Bool.{Bool, true, false, cond, _&&_}
 use lib.IntN.{pos}
 use Rattle.reads.specs.Said.{refusal}
 use Rattle.tables.specs.declared.MetricsUnpacked.{MetricsUnpacked}
@@ -48,41 +46,42 @@ nothing = record {
   kinds = record { props = false; accel = false; metrics = false; bitmaps = false; codes = false; names = false };
 }
 
--- the kinds so far, and that of this type; the accelerators count as type 2
-abbrev pub marked : ℕ → Kinds → Kinds
-marked kind k = record {
-  props = eqb kind 1 || k .props;
-  accel = eqb kind 2 || k .accel;
-  metrics = eqb kind 4 || k .metrics;
-  bitmaps = eqb kind 8 || k .bitmaps;
-  codes = eqb kind 32 || k .codes;
-  names = eqb kind 128 || k .names;
-}
-
--- these tables, of which the one of this type was just read
-abbrev pub given : ℕ → Gathered → Record → Entered
-given kind g tables = Entered.Next (record { tables = tables; kinds = marked kind (g .kinds) })
+-- what the directory has given, with one more table
+abbrev pub given : Record → Kinds → Entered
+given tables kinds = Entered.Next (record { tables = tables; kinds = kinds })
 
 -- a table that was read takes the place of an earlier one of its kind; a table of another type changes nothing
 abbrev pub added : Gathered → TableRead → Entered
 added g (TableRead.Properties t) =
     let r = g .tables in
-    given 1 g (record { props = t; accel = r .accel; metrics = r .metrics; bitmaps = r .bitmaps; codes = r .codes; names = r .names })
+    let k = g .kinds in
+    given (record { props = t; accel = r .accel; metrics = r .metrics; bitmaps = r .bitmaps; codes = r .codes; names = r .names })
+    (record { props = true; accel = k .accel; metrics = k .metrics; bitmaps = k .bitmaps; codes = k .codes; names = k .names })
 added g (TableRead.Accelerators t) =
     let r = g .tables in
-    given 2 g (record { props = r .props; accel = t; metrics = r .metrics; bitmaps = r .bitmaps; codes = r .codes; names = r .names })
+    let k = g .kinds in
+    given (record { props = r .props; accel = t; metrics = r .metrics; bitmaps = r .bitmaps; codes = r .codes; names = r .names })
+    (record { props = k .props; accel = true; metrics = k .metrics; bitmaps = k .bitmaps; codes = k .codes; names = k .names })
 added g (TableRead.Metrics t) =
     let r = g .tables in
-    given 4 g (record { props = r .props; accel = r .accel; metrics = t; bitmaps = r .bitmaps; codes = r .codes; names = r .names })
+    let k = g .kinds in
+    given (record { props = r .props; accel = r .accel; metrics = t; bitmaps = r .bitmaps; codes = r .codes; names = r .names })
+    (record { props = k .props; accel = k .accel; metrics = true; bitmaps = k .bitmaps; codes = k .codes; names = k .names })
 added g (TableRead.Bitmaps t) =
     let r = g .tables in
-    given 8 g (record { props = r .props; accel = r .accel; metrics = r .metrics; bitmaps = t; codes = r .codes; names = r .names })
+    let k = g .kinds in
+    given (record { props = r .props; accel = r .accel; metrics = r .metrics; bitmaps = t; codes = r .codes; names = r .names })
+    (record { props = k .props; accel = k .accel; metrics = k .metrics; bitmaps = true; codes = k .codes; names = k .names })
 added g (TableRead.Codes t) =
     let r = g .tables in
-    given 32 g (record { props = r .props; accel = r .accel; metrics = r .metrics; bitmaps = r .bitmaps; codes = t; names = r .names })
+    let k = g .kinds in
+    given (record { props = r .props; accel = r .accel; metrics = r .metrics; bitmaps = r .bitmaps; codes = t; names = r .names })
+    (record { props = k .props; accel = k .accel; metrics = k .metrics; bitmaps = k .bitmaps; codes = true; names = k .names })
 added g (TableRead.Names t) =
     let r = g .tables in
-    given 128 g (record { props = r .props; accel = r .accel; metrics = r .metrics; bitmaps = r .bitmaps; codes = r .codes; names = t })
+    let k = g .kinds in
+    given (record { props = r .props; accel = r .accel; metrics = r .metrics; bitmaps = r .bitmaps; codes = r .codes; names = t })
+    (record { props = k .props; accel = k .accel; metrics = k .metrics; bitmaps = k .bitmaps; codes = k .codes; names = true })
 added g TableRead.Other = Entered.Next g
 added g (TableRead.Refused n) = Entered.Refused n
 
