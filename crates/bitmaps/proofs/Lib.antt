@@ -1,3 +1,5 @@
 pub mod CutRule
 pub mod Painting
 pub mod Pixels
+pub mod DataBytes
+pub mod LastByte

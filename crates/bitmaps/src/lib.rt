@@ -1,4 +1,12 @@
 // A glyph's bitmap: its rows of bits, the cut at the buffer's end, the pixels it colours.
+mod data;
+
+pub use data::offset_of;
+pub use data::row_byte;
+pub use data::row_bytes;
+pub use data::row_stride;
+pub use data::rows_short;
+pub use data::unreadable;
 use reads::Refusal;
 
 // How many rows were drawn, and how many the buffer's end cut off.

@@ -1,1 +1,2 @@
 pub mod EntryInside
+pub mod OutsideRange

@@ -7,6 +7,7 @@ use tables::EncodingData;
 use tables::Record;
 use tables::record_fits;
 ghost use mathlib.Core.Path.{_≡_};
+ghost use Rattle.lookup.specs.CodeRange.{codeRange};
 ghost use Rattle.lookup.specs.Lookup.{oneByte, slotWhole, slotBytes, slotOf, entryGlyph, glyphOf, getGlyph};
 
 // The glyph of a code.
@@ -19,6 +20,13 @@ pub enum Found {
 pub enum Slot {
     At(u32),
     Nothing,
+}
+
+// The codes that may have a glyph: from `low` on, up to but not with `end`.
+#[repr(C)]
+pub struct CodeRange {
+    pub low: u32,
+    pub end: u32,
 }
 
 // Whether codes are one number, and not two bytes.
@@ -118,5 +126,27 @@ pub fn get_glyph(bytes: &[u8], rec: Record, code: CharCode) -> Found
             number: 6,
             place: 0,
         })
+    }
+}
+
+// The range of codes outside which this table has no glyph. Whoever asks something of every code asks
+// it of these.
+pub fn code_range(c: EncodingData) -> CodeRange
+    ensures { λ r. ⌜ r ≡ codeRange c ⌝ }
+{
+    let high1 = c.high1 as u32;
+    if one_byte(c) {
+        return CodeRange {
+            low: c.low2 as u32,
+            end: c.high2 as u32 + 1,
+        };
+    }
+    let low = 256 * (c.low1 as u32);
+    if 255 <= high1 {
+        return CodeRange { low, end: 65536 };
+    }
+    CodeRange {
+        low,
+        end: 256 * high1 + 256,
     }
 }

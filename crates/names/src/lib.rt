@@ -31,8 +31,9 @@ pub enum Zero {
     Nothing,
 }
 
-// The name of a glyph in this table, or 17, 18. Does not test the record.
-fn name_of(s: &[u8], n: GlyphNameData, g: GlyphIndex) -> Named
+// The name of a glyph in this table, or 17, 18; 6 where the table's strings lie outside the bytes.
+// Does not test the rest of the record.
+pub fn name_of(s: &[u8], n: GlyphNameData, g: GlyphIndex) -> Named
     ensures { λ r. ⌜ r ≡ nameOf (now (s .entry)) n (g .0) ⌝ }
 {
     let i = g.0 as u32;

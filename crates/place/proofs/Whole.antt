@@ -1,14 +1,17 @@
 -- The laws of signed 16-bit numbers in whole numbers: sums fit 32 bits, and the tests against 0.
-use mathlib.Core.Path.{_≡_, refl}
-use Prim.Native.Nat.{ℕ, suc, _+_, _-_, _≤_}
+use mathlib.Core.Path.{_≡_, refl, sym, subst}
+use mathlib.Core.Bool.{true, false}
+use Prim.Native.Nat.{ℕ, zero, suc, _+_, _-_, _≤_}
 use native.Mathlib.Omega.{arith}
-use lib.Dec.{ltb}
-use lib.IntN.{ℤ, pos, negsuc, subℕ, _+ℤ_}
+use lib.Dec.{T, ltb}
+use lib.IntN.{ℤ, pos, negsuc, subℕ, natAbs, _+ℤ_, _-ℤ_}
 use lib.Signed.{mag, nonNeg, leZ}
 use mir.Syntax.{w16, w32}
 use mir.Val.{SFits}
-use borrow.Author.Tests.{le-leb}
+use borrow.Author.Tests.{le-leb, leb-true, le-ltb}
 use Rattle.reads.proofs.Signed.{mag-cond}
+use Rattle.reads.proofs.Tests.{never, both}
+use Rattle.place.specs.Bounds.{inRange}
 
 mag-sub : (a b h : ℕ) → a ≤ h → b ≤ h → mag (subℕ a b) ≤ h
 mag-sub a b h p q = mag-cond (ltb a b) (negsuc (b - suc a)) (pos (a - b)) h (omega arith) (omega arith)
@@ -25,3 +28,16 @@ sum-fits a b fa fb = record { sfits = omega (arith, mag-add a b 32768 (omega ari
 pub from-zero : (z : ℤ) → leZ (pos 0) z ≡ nonNeg z
 from-zero (pos n) = le-leb 0 n (omega arith)
 from-zero (negsuc n) = refl
+
+-- a number in range is a natural one of 15 bits
+pub in-range-small : (z : ℤ) → inRange z ≡ true → T (nonNeg z) × (natAbs z ≤ 32767)
+in-range-small (pos n) e = let (a, b) = both (nonNeg (pos n)) (leZ (pos n) (pos 32767)) e in (tt, leb-true n 32767 b)
+in-range-small (negsuc n) e = never e
+
+-- the difference of two natural numbers, where it is one
+pub difference : (a b : ℤ) → nonNeg b ≡ true → leZ b a ≡ true → (natAbs b ≤ natAbs a) × (natAbs a - natAbs b ≡ natAbs (a -ℤ b))
+difference (pos a) (pos zero) n e = (omega arith, omega arith)
+difference (pos a) (pos (suc b)) n e = (leb-true (suc b) a e, rw (le-ltb a (suc b) (leb-true (suc b) a e)) refl)
+difference (pos a) (negsuc b) n e = never n
+difference (negsuc a) (pos b) n e = never e
+difference (negsuc a) (negsuc b) n e = never n

@@ -6,12 +6,13 @@ use tables::MetricsUnpacked;
 use tables::Record;
 use tables::record_fits;
 ghost use mathlib.Core.Path.{_≡_};
+ghost use mathlib.Core.Bool.{true};
 ghost use lib.Dec.{T};
 ghost use lib.IntN.{natAbs, _+ℤ_};
 ghost use lib.Signed.{nonNeg};
 ghost use Rattle.place.specs.Bounds.{heightOf, inRange, boundsHold, boundsSized, dimensions};
 
-fn is_natural(z: i16) -> bool
+pub(crate) fn is_natural(z: i16) -> bool
     ensures { λ r. ⌜ r ≡ nonNeg z ⌝ }
 {
     0 <= z
@@ -23,37 +24,38 @@ fn sum_of(a: i16, b: i16) -> i32
     (a as i32) + (b as i32)
 }
 
-fn in_range(z: i32) -> bool
+pub(crate) fn in_range(z: i32) -> bool
     ensures { λ r. ⌜ r ≡ inRange z ⌝ }
 {
     (0 <= z) & (z <= 32767)
 }
 
 // Ascent and descent together.
-fn height_of(m: MetricsUnpacked) -> i32
+pub(crate) fn height_of(m: MetricsUnpacked) -> i32
     ensures { λ r. ⌜ r ≡ heightOf m ⌝ }
 {
     sum_of(m.ascent, m.descent)
 }
 
-fn bounds_hold(m: MetricsUnpacked) -> bool
+// Whether the bounds of all glyphs are in range; if not, `dimensions`, texts and vetting answer 11.
+pub fn bounds_hold(m: MetricsUnpacked) -> bool
     ensures { λ r. ⌜ r ≡ boundsHold m ⌝ }
 {
     is_natural(m.ascent) & is_natural(m.width) & in_range(height_of(m))
 }
 
-fn natural_i16(z: i16) -> usize
+pub(crate) fn natural_i16(z: i16) -> u16
     requires { ⌜ T (nonNeg z) ⌝ }
     ensures { λ r. ⌜ r ≡ natAbs z ⌝ }
 {
-    z as usize
+    z as u16
 }
 
-fn natural_i32(z: i32) -> usize
-    requires { ⌜ T (nonNeg z) ⌝ }
+pub(crate) fn natural_i32(z: i32) -> u16
+    requires { ⌜ inRange z ≡ true ⌝ }
     ensures { λ r. ⌜ r ≡ natAbs z ⌝ }
 {
-    z as usize
+    z as u16
 }
 
 // The bounds' height and width, or 11.
@@ -61,8 +63,8 @@ fn bounds_sized(m: MetricsUnpacked) -> Sized
     ensures { λ r. ⌜ r ≡ boundsSized m ⌝ }
 {
     if bounds_hold(m) {
-        let height = natural_i32(height_of(m));
-        let width = natural_i16(m.width);
+        let height = natural_i32(height_of(m)) as usize;
+        let width = natural_i16(m.width) as usize;
         Sized::Dimensions(Extent { height, width })
     } else {
         Sized::Refused(Refusal {

@@ -1,8 +1,11 @@
 // A character placed: its glyph's box, and drawing or unpacking that box.
 mod bounds;
+mod boxes;
 
 use bitmaps::Rows;
+pub use bounds::bounds_hold;
 pub use bounds::dimensions;
+pub use boxes::info_of;
 use reads::GlyphIndex;
 use reads::Refusal;
 
@@ -11,10 +14,10 @@ use reads::Refusal;
 #[repr(C)]
 pub struct GlyphInfo {
     pub glyph: GlyphIndex,
-    pub width: usize,
-    pub height: usize,
-    pub pad_top: usize,
-    pub pad_left: usize,
+    pub width: u16,
+    pub height: u16,
+    pub pad_top: u16,
+    pub pad_left: u16,
 }
 
 // The maximum bounds' height and width, in 000's order.

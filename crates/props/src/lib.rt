@@ -36,8 +36,9 @@ fn prop_string(s: &[u8], p: PropertiesData, from: u32) -> Named
     string_at(s, p.strings, p.size, from as usize)
 }
 
-// Property number `i` of this table, or 17, 18. Does not test the record.
-fn prop_of(s: &[u8], p: PropertiesData, i: u32) -> PropFound
+// Property number `i` of this table, or 17, 18; 6 where the table's strings lie outside the bytes.
+// Does not test the rest of the record.
+pub fn prop_of(s: &[u8], p: PropertiesData, i: u32) -> PropFound
     ensures { λ r. ⌜ r ≡ propOf (now (s .entry)) p i ⌝ }
 {
     if p.count <= i {

@@ -20,10 +20,16 @@ natural-i32-requires : tie.Need-natural-i32-requires
 natural-i32-requires c κs =
     rw (back w32 (c .height-of .result) (c .height-of .ok), c .height-of .ensures) (held (c .before .before .before .args .m) (sym (c .before .before .bounds-hold .ensures) ∙ c .before .if1 .taken) .1)
 
+cast-height : tie.Need-cast-height
+cast-height c = search needs
+
 -- src/bounds.rt:65:13
 natural-i16-requires : tie.Need-natural-i16-requires
 natural-i16-requires c κs =
     rw (back w16 (c .before .before .before .before .before .args .m .width) (c .struct-told .given .1 .1 .0 .1)) (held (c .before .before .before .before .before .args .m) (sym (c .before .before .before .before .bounds-hold .ensures) ∙ c .before .before .before .if1 .taken) .0)
+
+cast-width : tie.Need-cast-width
+cast-width c = search needs
 
 -- src/bounds.rt:60:1
 returns : tie.Need-returns
@@ -44,6 +50,8 @@ bounds-sized-spec =
     bounds-hold-requires
     height-of-requires
     natural-i32-requires
+    cast-height
     natural-i16-requires
+    cast-width
     returns
     returns-2)

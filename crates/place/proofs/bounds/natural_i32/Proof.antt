@@ -1,3 +1,5 @@
+use native.Mathlib.Omega.{arith}
+use Rattle.place.proofs.Whole.{in-range-small}
 use mir.Syntax.{w32}
 use mir.Facts.{toZ-ofZ, fits-natAbs}
 use borrow.Author.Needs.{needs}
@@ -6,7 +8,7 @@ use Rattle.place.proofs.bounds.natural_i32.Tie as tie
 
 -- src/bounds.rt:56:5
 cast-result : tie.Need-cast-result
-cast-result c = rw (toZ-ofZ {w = w32} {z = c .args .z} (c .fits .z)) (search needs, fits-natAbs tt (c .fits .z))
+cast-result c = rw (toZ-ofZ {w = w32} {z = c .args .z} (c .fits .z)) (in-range-small (c .args .z) (c .pre) .0, omega (arith, in-range-small (c .args .z) (c .pre) .1))
 
 -- src/bounds.rt:52:1
 returns : tie.Need-returns

@@ -1,0 +1,27 @@
+use Rattle.bitmaps.specs.Picture.{offsetOf}
+use borrow.Author.Needs.{needs}
+use Rattle.bitmaps.proofs.data.offset_of.Statement.{statement}
+use Rattle.bitmaps.proofs.data.offset_of.Tie as tie
+use Rattle.bitmaps.proofs.data.offset_of.Reads as reads
+use Rattle.bitmaps.proofs.data.offset_of.Lts as lts
+use Rattle.reads.proofs.u32_at.Reads as u32-at-reads
+
+-- src/data.rt:58:31
+cast-u32-at : tie.Need-cast-u32-at
+cast-u32-at c = search needs
+
+-- src/data.rt:58:26
+mul-u32-at : tie.Need-mul-u32-at
+mul-u32-at c = search needs
+
+-- src/data.rt:58:5
+u32-at-requires : tie.Need-u32-at-requires
+u32-at-requires c κs = search needs
+
+-- src/data.rt:55:1
+returns : tie.Need-returns
+unfolding offsetOf
+returns c = c .u32-at .ensures
+
+pub offset-of-spec : {M : Type 1} → statement M
+offset-of-spec = tie.close (tie.spec cast-u32-at mul-u32-at u32-at-requires returns)

@@ -1,0 +1,72 @@
+// The box of a glyph: how large its bitmap is, and where it stands against the pen and the line's top.
+use crate::GlyphInfo;
+use crate::Prepared;
+use crate::bounds::height_of;
+use crate::bounds::in_range;
+use crate::bounds::is_natural;
+use crate::bounds::natural_i16;
+use crate::bounds::natural_i32;
+use metrics::Measured;
+use metrics::metrics_of;
+use reads::GlyphIndex;
+use reads::Refusal;
+use tables::MetricsUnpacked;
+use tables::Record;
+ghost use mathlib.Core.Path.{_≡_};
+ghost use mathlib.Core.Bool.{true};
+ghost use lib.Signed.{leZ};
+ghost use Rattle.place.specs.Info.{placeable, boxOf, infoOf};
+
+fn at_most(a: i16, b: i16) -> bool
+    ensures { λ r. ⌜ r ≡ leZ a b ⌝ }
+{
+    a <= b
+}
+
+// Whether a glyph with these metrics has a place under the maximum bounds' ascent.
+fn placeable(m: MetricsUnpacked, top: i16) -> bool
+    ensures { λ r. ⌜ r ≡ placeable m top ⌝ }
+{
+    is_natural(m.width)
+        & is_natural(m.ascent)
+        & is_natural(m.left)
+        & in_range(height_of(m))
+        & at_most(m.ascent, top)
+}
+
+fn box_of(g: GlyphIndex, m: MetricsUnpacked, top: i16) -> GlyphInfo
+    requires { ⌜ placeable m top ≡ true ⌝ }
+    ensures { λ r. ⌜ r ≡ boxOf g m top ⌝ }
+{
+    let width = natural_i16(m.width);
+    let height = natural_i32(height_of(m));
+    let pad_top = natural_i16(top) - natural_i16(m.ascent);
+    let pad_left = natural_i16(m.left);
+    GlyphInfo {
+        glyph: g,
+        width,
+        height,
+        pad_top,
+        pad_left,
+    }
+}
+
+// A glyph's box, or 10, 11. Does not test the record: bytes past the end read as 0.
+pub fn info_of(s: &[u8], rec: Record, g: GlyphIndex) -> Prepared
+    ensures { λ r. ⌜ r ≡ infoOf (now (s .entry)) rec g ⌝ }
+{
+    let top = rec.accel.maxbounds.ascent;
+    let measured = metrics_of(s, rec.metrics, g);
+    match measured {
+        Measured::Metrics(m) => {
+            if placeable(m, top) {
+                return Prepared::Info(box_of(g, m, top));
+            }
+            Prepared::Refused(Refusal {
+                number: 11,
+                place: 0,
+            })
+        }
+        Measured::Refused(r) => Prepared::Refused(r),
+    }
+}
