@@ -27,7 +27,7 @@ module _ (c : EncodingData) (code : ℕ) where
       (λ t. let (l, h) = both (leb (c .low2) code) (leb code (c .high2)) t in
       absurd (⊎-elim
       (λ below. let b : code < c .low2 = rw one at below in omega (arith, leb-true (c .low2) code l))
-      (λ above. let a : c .high2 + 1 ≤ code = rw one at above in omega (arith, leb-true code (c .high2) h)) out))
+      (λ above. let a : min (c .high2 + 1) 65536 ≤ code = rw one at above in omega (arith, leb-true code (c .high2) h, ltb-false 65535 code far)) out))
       (λ t. rw (far, one, t) refl))
       (λ two. let first = between (c .low1) (c .high1) (code / 256) in
       split (first && between (c .low2) (c .high2) (code % 256))
@@ -43,7 +43,7 @@ module _ (c : EncodingData) (code : ℕ) where
   unfolding glyphOf
   outside-none s out = rw (outside-slot out) refl
 
--- no code of the range exceeds 65,535, in a table whose bounds are 16-bit numbers
-pub range-end : (c : EncodingData) → c .high2 < 65536 → codeRange c .end ≤ 65536
+-- no code of the range exceeds 65,535
+pub range-end : (c : EncodingData) → codeRange c .end ≤ 65536
 unfolding codeRange
-range-end c h = split (oneByte c) (λ t. rw t (omega arith)) (λ t. rw t (omega arith))
+range-end c = omega arith

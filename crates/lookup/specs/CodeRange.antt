@@ -6,8 +6,14 @@ use Rattle.tables.specs.declared.EncodingData.{EncodingData}
 use Rattle.lookup.specs.Lookup.{oneByte}
 use Rattle.lookup.specs.declared.CodeRange.{CodeRange}
 
--- from the least code of the first byte's bounds to the greatest, `end` being the first code past them
+-- the least code that the bounds allow
+abbrev pub leastCode : EncodingData → ℕ
+leastCode c = cond (oneByte c) (c .low2) (256 * c .low1)
+
+-- the first code past the greatest that they allow
+abbrev pub pastCodes : EncodingData → ℕ
+pastCodes c = cond (oneByte c) (c .high2 + 1) (256 * c .high1 + 256)
+
+-- "any code above 65,535 [has] no glyph"
 unfoldable pub codeRange : EncodingData → CodeRange
-codeRange c =
-    cond (oneByte c) (record { low = c .low2; end = c .high2 + 1 })
-    (record { low = 256 * c .low1; end = min (256 * c .high1 + 256) 65536 })
+codeRange c = record { low = leastCode c; end = min (pastCodes c) 65536 }

@@ -125,18 +125,19 @@ fn vet_record(s: &[u8], rec: Record) -> Vetted
             place: 0,
         });
     }
-    if !bounds_hold(rec.accel.maxbounds) {
-        return Vetted::Refused(Refusal {
+    if bounds_hold(rec.accel.maxbounds) {
+        match first_prop(s, rec) {
+            First::At(number, place) => Vetted::Refused(Refusal { number, place }),
+            First::Clear => match first_code(s, rec) {
+                First::At(number, place) => Vetted::Refused(Refusal { number, place }),
+                First::Clear => Vetted::Passed(rec),
+            },
+        }
+    } else {
+        Vetted::Refused(Refusal {
             number: 11,
             place: 0,
-        });
-    }
-    match first_prop(s, rec) {
-        First::At(number, place) => Vetted::Refused(Refusal { number, place }),
-        First::Clear => match first_code(s, rec) {
-            First::At(number, place) => Vetted::Refused(Refusal { number, place }),
-            First::Clear => Vetted::Passed(rec),
-        },
+        })
     }
 }
 

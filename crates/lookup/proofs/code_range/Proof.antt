@@ -32,7 +32,7 @@ add-t7 c = search needs
 -- src/lib.rt:139:9
 returns : tie.Need-returns
 unfolding codeRange
-returns c = rw (← c .before .before .before .one-byte .ensures, c .before .before .if1 .taken)
+returns c = let e : min (c .before .before .before .before .before .args .c .high2 + 1) 65536 ≡ c .before .before .before .before .before .args .c .high2 + 1 = omega (arith, c .struct-known3 .given) in rw (← c .before .before .before .one-byte .ensures, c .before .before .if1 .taken, e)
 
 -- src/lib.rt:144:22
 cast-low : tie.Need-cast-low
