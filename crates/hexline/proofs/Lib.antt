@@ -1,0 +1,4 @@
+mod Scan
+pub mod Read
+mod Ahead
+pub mod Filled
