@@ -1,8 +1,8 @@
 -- A code outside its table's range has no glyph, so what is asked of every code need be asked of that range alone.
 use mathlib.Core.Path.{_≡_, refl}
-use mathlib.Core.Bool.{true, false, cond, _&&_}
+use mathlib.Core.Bool.{_&&_}
 use mathlib.Core.List.{List}
-use mathlib.Core.Logic.{_⊎_, inl, inr, ⊎-elim}
+use mathlib.Core.Logic.{_⊎_, ⊎-elim}
 use Prim.Native.Nat.{ℕ, _+_, _*_, _/_, _%_, _≤_, _<_, min}
 use native.Mathlib.Omega.{arith}
 use lib.Dec.{leb, ltb}
@@ -10,7 +10,7 @@ use borrow.Author.Tests.{leb-true, ltb-false}
 use Rattle.reads.specs.Range.{between}
 use Rattle.reads.proofs.Tests.{split, both}
 use Rattle.tables.specs.declared.EncodingData.{EncodingData}
-use Rattle.lookup.specs.Lookup.{oneByte, slotWhole, slotBytes, slotOf, noGlyph, glyphOf}
+use Rattle.lookup.specs.Lookup.{oneByte, slotOf, noGlyph, glyphOf}
 use Rattle.lookup.specs.CodeRange.{codeRange}
 use Rattle.lookup.specs.declared.Slot.{Slot}
 

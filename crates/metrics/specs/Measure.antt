@@ -20,11 +20,13 @@ abbrev pub measuredAt : Bool → Bool → List ℕ → ℕ → MetricsUnpacked
 measuredAt true big s at = narrowAt s at
 measuredAt false big s at = wideAt big s at
 
+-- glyph g's record
+abbrev pub metricsAt : List ℕ → MetricsData → ℕ → MetricsUnpacked
+metricsAt s m g = measuredAt (m .compressed) (m .big) s (m .records + metricBytes (m .compressed) * g)
+
 -- glyph g's metrics, or 10
 unfoldable pub metricsOf : List ℕ → MetricsData → ℕ → Measured
-metricsOf s m g =
-    cond (leb (m .count) g) (Measured.Refused (refusal 10 0))
-    (Measured.Metrics (measuredAt (m .compressed) (m .big) s (m .records + metricBytes (m .compressed) * g)))
+metricsOf s m g = cond (leb (m .count) g) (Measured.Refused (refusal 10 0)) (Measured.Metrics (metricsAt s m g))
 
 -- `get_metrics`: 6, 10
 unfoldable pub getMetrics : List ℕ → Record → ℕ → Measured

@@ -12,8 +12,9 @@ use borrow.Author.Tests.{eqb-true, eqb-false, ltb-true, ltb-false}
 use Rattle.reads.specs.Num.{byteAt}
 use Rattle.reads.proofs.Tests.{never, split}
 use Rattle.tables.specs.Fits.{inside}
-use Rattle.names.specs.Strings.{zeroFrom, spanTo, stringAt}
+use Rattle.names.specs.Strings.{zeroFrom, spanTo, stringAt, EndsIn}
 use Rattle.names.specs.declared.Named.{Named}
+use Rattle.names.specs.declared.Span.{Span}
 use Rattle.names.specs.declared.Zero.{Zero}
 
 -- from `at` on, the bytes numbered `low` to `high - 1` are not zero
@@ -66,3 +67,20 @@ string-ends s strings size from =
     (span-ends s strings size from (zeroFrom s (strings + from) (size - from) 0) (ltb-false size from u)
     (simp (zero-add) at (searched s (strings + from) (size - from) 0)))))
     (λ t. rw t (λ g i. never (sym t ∙ i)))
+
+-- a string is found exactly if it ends, in string data that lies in the bytes
+module _ (s : List ℕ) (strings size from : ℕ) where
+  pub found-ends : (p : Span) → stringAt s strings size from ≡ Named.Name p → EndsIn s strings size from
+  found-ends p e =
+      let (start, below, zero-byte, none) = subst (Ends s strings size from) e (string-ends s strings size from) in
+      let there : p .start + p .len ≡ strings + (from + p .len) = omega arith in
+      (from + p .len, omega arith, omega arith, rw there at zero-byte)
+
+  pub ends-found : inside (length s) strings size ≡ true → EndsIn s strings size from → (p : Span) × (stringAt s strings size from ≡ Named.Name p)
+  ends-found i (k, l, h, e) = by (stringAt s strings size from) refl where
+    by : (x : Named) → stringAt s strings size from ≡ x → (p : Span) × (stringAt s strings size from ≡ Named.Name p)
+    by (Named.Name p) f = (p, f)
+    by (Named.Refused r) f =
+        let none = subst (Ends s strings size from) f (string-ends s strings size from) (omega arith) i in
+        let there : strings + from + (k - from) ≡ strings + k = omega arith in
+        absurd (none (k - from) (omega arith) (omega arith) (rw there e))

@@ -2,3 +2,4 @@ pub mod Zeros
 pub mod Parts
 pub mod EndsAtZero
 pub mod OffsetInside
+pub mod Numbered

@@ -1,6 +1,7 @@
 -- A string of a font: "the part of the font's own bytes up to its zero byte". From document 01, refusal 18 "string offset beyond
 -- the string data, or no zero byte at or after it".
-use Prim.Native.Nat.{ℕ, zero, suc, _+_, _-_}
+use Prim.Native.Nat.{ℕ, zero, suc, _+_, _-_, _≤_, _<_}
+use mathlib.Core.Path.{_≡_}
 use mathlib.Core.Bool.{cond}
 use mathlib.Core.List.{List}
 use lib.ListN.{length, take, drop}
@@ -27,6 +28,10 @@ stringAt s strings size from =
     cond (inside (length s) strings size)
     (cond (ltb size from) (Named.Refused (refusal 18 0)) (spanTo (strings + from) (zeroFrom s (strings + from) (size - from) 0)))
     (Named.Refused (refusal 6 0))
+
+-- a string that ends: its offset lies in the string data, and a zero byte stands there "at or after it"
+abbrev pub EndsIn : List ℕ → ℕ → ℕ → ℕ → Type 0
+EndsIn s strings size from = (k : ℕ) × (from ≤ k) × (k < size) × (byteAt s (strings + k) ≡ 0)
 
 -- the bytes of a span
 abbrev pub partOf : List ℕ → Span → List ℕ

@@ -2,3 +2,4 @@ mod ProvedCases
 mod DumpF
 mod Unique
 mod RecordTest
+mod Vetting

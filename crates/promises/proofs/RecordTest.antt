@@ -1,6 +1,6 @@
 -- A call with a record is refused 6 exactly when the record's test fails: so never with a record that loading gave for the same bytes.
 use mathlib.Core.Path.{_≡_, refl, sym, _∙_}
-use mathlib.Core.Bool.{Bool, true, false, cond, _&&_}
+use mathlib.Core.Bool.{true, false, cond}
 use mathlib.Core.List.{List}
 use Prim.Native.Nat.{ℕ, _+_, _-_, _*_}
 use native.Mathlib.Omega.{arith}
@@ -8,8 +8,9 @@ use lib.ListN.{length}
 use lib.Dec.{leb, ltb, eqb}
 use Rattle.reads.specs.Num.{byteAt, u16At, u32At}
 use Rattle.reads.specs.Said.{Said}
-use Rattle.reads.proofs.Tests.{never, split, either, both}
-use Rattle.tables.specs.Fits.{inside, propsFit, metricsFit, bitmapsFit, codesFit, namesFit, recordFits}
+use Rattle.reads.proofs.Tests.{never, split, either}
+use Rattle.tables.specs.Fits.{inside, recordFits}
+use Rattle.tables.proofs.RecordParts.{prop-strings, name-strings}
 use Rattle.tables.specs.declared.EncodingData.{EncodingData}
 use Rattle.tables.specs.declared.MetricsUnpacked.{MetricsUnpacked}
 use Rattle.tables.specs.declared.Record.{Record}
@@ -52,35 +53,14 @@ with-past : (n : Named) (rest : Span → PropFound) → NotSix (saidNamed n) →
 with-past (Named.Name p) rest h k = k p
 with-past (Named.Refused r) rest h k = h
 
--- the parts of a record that passes its test
-abbrev Parts : ℕ → Record → Type 0
-Parts len rec = (propsFit len (rec .props) ≡ true) × (namesFit len (rec .names) ≡ true)
-
-parts : (len : ℕ) (rec : Record) → recordFits len rec ≡ true → Parts len rec
-unfolding recordFits
-parts len rec e =
-    let a = propsFit len (rec .props) in
-    let b = metricsFit len (rec .metrics) in
-    let c = bitmapsFit len (rec .bitmaps) in
-    let d = codesFit len (rec .codes) in
-    let (up-to-codes, names) = both (a && b && c && d) (namesFit len (rec .names)) e in
-    let (up-to-bitmaps, codes) = both (a && b && c) d up-to-codes in
-    let (up-to-metrics, bitmaps) = both (a && b) c up-to-bitmaps in
-    let (props, metrics) = both a b up-to-metrics in
-    (props, names)
-
--- the region of a table's strings is its second test
-second : (a b : Bool) → (a && b) ≡ true → b ≡ true
-second a b e = both a b e .1
-
 prop-past : (s : List ℕ) (rec : Record) (i : ℕ) → recordFits (length s) rec ≡ true → NotSix (saidProp (propOf s (rec .props) i))
-unfolding propOf propsFit
+unfolding propOf
 prop-past s rec i h =
     let p = rec .props in
     let P : PropFound → Type 0 = λ r. NotSix (saidProp r) in
     let at = p .records + 9 * i in
     let value = u32At (p .big) s (at + 5) in
-    let room = second (inside (length s) (p .records) (9 * p .count)) (inside (length s) (p .strings) (p .size)) (parts (length s) rec h .0) in
+    let room = prop-strings (length s) rec h in
     either P (leb (p .count) i) (λ e. omega arith)
     (with-past (stringAt s (p .strings) (p .size) (u32At (p .big) s at)) (λ name.
     cond (eqb (byteAt s (at + 4)) 0) (property name (PropValue.Number value))
@@ -91,10 +71,10 @@ prop-past s rec i h =
     (string-past s (p .strings) (p .size) value room) (λ text e. omega arith))))
 
 name-past : (s : List ℕ) (rec : Record) (g : ℕ) → recordFits (length s) rec ≡ true → NotSix (saidNamed (nameOf s (rec .names) g))
-unfolding nameOf namesFit
+unfolding nameOf
 name-past s rec g h =
     let n = rec .names in
-    let room = second (inside (length s) (n .offsets) (4 * n .count)) (inside (length s) (n .strings) (n .size)) (parts (length s) rec h .1) in
+    let room = name-strings (length s) rec h in
     either (λ (r : Named). NotSix (saidNamed r)) (leb (n .count) g) (λ e. omega arith)
     (string-past s (n .strings) (n .size) (u32At (n .big) s (n .offsets + 4 * g)) room)
 

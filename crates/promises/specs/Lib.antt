@@ -4,3 +4,4 @@ pub mod Seen
 pub mod Cases
 pub mod Unique
 pub mod SixExactly
+pub mod Passing

@@ -1,11 +1,14 @@
 -- All 65,536 codes are vetted by the codes of the table's range.
 use mathlib.Core.Path.{_≡_, refl}
 use mathlib.Core.List.{List}
-use mathlib.Core.Logic.{_⊎_, inl, inr}
+use mathlib.Core.Logic.{inl, inr}
 use Prim.Native.Nat.{ℕ, _-_}
+use Rattle.reads.specs.Said.{refusal}
+use Rattle.reads.specs.declared.Refusal.{Refusal}
 use Rattle.tables.specs.declared.Record.{Record}
 use Rattle.lookup.specs.CodeRange.{codeRange}
-use Rattle.lookup.specs.Lookup.{noGlyph, glyphOf}
+use Rattle.lookup.specs.Lookup.{glyphOf}
+use Rattle.lookup.specs.declared.Found.{Found}
 use Rattle.lookup.proofs.OutsideRange.{outside-none, range-end}
 use Rattle.vet.specs.First.{firstFault}
 use Rattle.vet.specs.Vet.{codeFault}
@@ -13,13 +16,13 @@ use Rattle.vet.proofs.FirstFault.{by-range}
 
 module _ (s : List ℕ) (rec : Record) where
   -- a code without a glyph has no fault
-  pub no-glyph-no-fault : (code : ℕ) → glyphOf s (rec .codes) code ≡ noGlyph → codeFault s rec code ≡ 0
+  pub no-glyph-no-fault : (code : ℕ) (r : Refusal) → glyphOf s (rec .codes) code ≡ Found.Refused r → codeFault s rec code ≡ 0
   unfolding codeFault
-  no-glyph-no-fault code e = rw e refl
+  no-glyph-no-fault code r e = rw e refl
 
   pub codes-in-range :
       firstFault (codeFault s rec) 65536 0 ≡ firstFault (codeFault s rec) (codeRange (rec .codes) .end - codeRange (rec .codes) .low) (codeRange (rec .codes) .low)
   codes-in-range =
       by-range (codeFault s rec) 65536 (codeRange (rec .codes) .low) (codeRange (rec .codes) .end) (range-end (rec .codes))
-      (λ code below. no-glyph-no-fault code (outside-none (rec .codes) code s (inl below)))
-      (λ code above. no-glyph-no-fault code (outside-none (rec .codes) code s (inr above)))
+      (λ code below. no-glyph-no-fault code (refusal 9 0) (outside-none (rec .codes) code s (inl below)))
+      (λ code above. no-glyph-no-fault code (refusal 9 0) (outside-none (rec .codes) code s (inr above)))

@@ -1,2 +1,5 @@
 pub mod FirstFault
 pub mod CodesInRange
+pub mod Verdict
+pub mod PassedProps
+pub mod PassedCodes

@@ -1,2 +1,3 @@
 pub mod First
 pub mod Vet
+pub mod Verdict

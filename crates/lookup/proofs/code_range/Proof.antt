@@ -5,9 +5,6 @@ use Rattle.lookup.specs.CodeRange.{codeRange}
 use borrow.Author.Needs.{needs}
 use Rattle.lookup.proofs.code_range.Statement.{statement}
 use Rattle.lookup.proofs.code_range.Tie as tie
-use Rattle.lookup.proofs.code_range.Reads as reads
-use Rattle.lookup.proofs.code_range.Lts as lts
-use Rattle.lookup.proofs.one_byte.Reads as one-byte-reads
 
 -- src/lib.rt:137:17
 cast-high1 : tie.Need-cast-high1

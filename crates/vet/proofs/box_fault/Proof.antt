@@ -3,10 +3,6 @@ use borrow.Author.Tests.{le-leb, lt-leb}
 use borrow.Author.Needs.{needs}
 use Rattle.vet.proofs.box_fault.Statement.{statement}
 use Rattle.vet.proofs.box_fault.Tie as tie
-use Rattle.vet.proofs.box_fault.Reads as reads
-use Rattle.vet.proofs.box_fault.Lts as lts
-use Rattle.bitmaps.proofs.rows_short.Reads as rows-short-reads
-use Rattle.names.proofs.name_of.Reads as name-of-reads
 
 -- src/lib.rt:69:29
 cast-if1 : tie.Need-cast-if1

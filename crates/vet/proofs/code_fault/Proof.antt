@@ -2,10 +2,6 @@ use Rattle.vet.specs.Vet.{codeFault}
 use borrow.Author.Needs.{needs}
 use Rattle.vet.proofs.code_fault.Statement.{statement}
 use Rattle.vet.proofs.code_fault.Tie as tie
-use Rattle.vet.proofs.code_fault.Reads as reads
-use Rattle.vet.proofs.code_fault.Lts as lts
-use Rattle.lookup.proofs.glyph_of.Reads as glyph-of-reads
-use Rattle.vet.proofs.glyph_fault.Reads as glyph-fault-reads
 
 -- src/lib.rt:95:11
 glyph-of-requires : tie.Need-glyph-of-requires

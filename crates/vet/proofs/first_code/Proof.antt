@@ -7,10 +7,6 @@ use Rattle.vet.proofs.CodesInRange.{codes-in-range}
 use borrow.Author.Needs.{needs}
 use Rattle.vet.proofs.first_code.Statement.{statement}
 use Rattle.vet.proofs.first_code.Tie as tie
-use Rattle.vet.proofs.first_code.Reads as reads
-use Rattle.vet.proofs.first_code.Lts as lts
-use Rattle.lookup.proofs.code_range.Reads as code-range-reads
-use Rattle.vet.proofs.code_fault.Reads as code-fault-reads
 
 abbrev Inv-loop : tie.InvT-loop
 Inv-loop s rec end code₀ code = firstFault (codeFault s rec) (end - code) code ≡ firstFault (codeFault s rec) (end - code₀) code₀

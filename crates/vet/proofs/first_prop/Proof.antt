@@ -7,9 +7,6 @@ use Rattle.vet.proofs.FirstFault.{loop-ends, loop-stops, loop-goes-on}
 use borrow.Author.Needs.{needs}
 use Rattle.vet.proofs.first_prop.Statement.{statement}
 use Rattle.vet.proofs.first_prop.Tie as tie
-use Rattle.vet.proofs.first_prop.Reads as reads
-use Rattle.vet.proofs.first_prop.Lts as lts
-use Rattle.vet.proofs.prop_fault.Reads as prop-fault-reads
 
 abbrev Inv-loop : tie.InvT-loop
 Inv-loop s rec count i₀ i = firstFault (propFault s rec) (count - i) i ≡ firstFault (propFault s rec) (count - i₀) i₀

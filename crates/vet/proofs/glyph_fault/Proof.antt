@@ -1,10 +1,6 @@
 use borrow.Author.Needs.{needs}
 use Rattle.vet.proofs.glyph_fault.Statement.{statement}
 use Rattle.vet.proofs.glyph_fault.Tie as tie
-use Rattle.vet.proofs.glyph_fault.Reads as reads
-use Rattle.vet.proofs.glyph_fault.Lts as lts
-use Rattle.place.proofs.info_of.Reads as info-of-reads
-use Rattle.vet.proofs.box_fault.Reads as box-fault-reads
 
 -- src/lib.rt:85:11
 info-of-requires : tie.Need-info-of-requires

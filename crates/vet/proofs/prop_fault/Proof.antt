@@ -2,9 +2,6 @@ use Rattle.vet.specs.Vet.{propFault}
 use borrow.Author.Needs.{needs}
 use Rattle.vet.proofs.prop_fault.Statement.{statement}
 use Rattle.vet.proofs.prop_fault.Tie as tie
-use Rattle.vet.proofs.prop_fault.Reads as reads
-use Rattle.vet.proofs.prop_fault.Lts as lts
-use Rattle.props.proofs.prop_of.Reads as prop-of-reads
 
 -- src/lib.rt:42:11
 prop-of-requires : tie.Need-prop-of-requires

@@ -2,10 +2,6 @@ use Rattle.vet.specs.Vet.{vetted}
 use borrow.Author.Needs.{needs}
 use Rattle.vet.proofs.vet.Statement.{statement}
 use Rattle.vet.proofs.vet.Tie as tie
-use Rattle.vet.proofs.vet.Reads as reads
-use Rattle.vet.proofs.vet.Lts as lts
-use Rattle.load.proofs.load_pcf.Reads as load-pcf-reads
-use Rattle.vet.proofs.vet_record.Reads as vet-record-reads
 
 -- src/lib.rt:151:11
 load-pcf-requires : tie.Need-load-pcf-requires

@@ -2,12 +2,6 @@ use Rattle.vet.specs.Vet.{vetRecord}
 use borrow.Author.Needs.{needs}
 use Rattle.vet.proofs.vet_record.Statement.{statement}
 use Rattle.vet.proofs.vet_record.Tie as tie
-use Rattle.vet.proofs.vet_record.Reads as reads
-use Rattle.vet.proofs.vet_record.Lts as lts
-use Rattle.bitmaps.proofs.unreadable.Reads as unreadable-reads
-use Rattle.place.proofs.bounds_hold.Reads as bounds-hold-reads
-use Rattle.vet.proofs.first_code.Reads as first-code-reads
-use Rattle.vet.proofs.first_prop.Reads as first-prop-reads
 
 -- src/lib.rt:122:8
 unreadable-requires : tie.Need-unreadable-requires

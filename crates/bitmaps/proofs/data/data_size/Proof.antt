@@ -3,8 +3,6 @@ use Rattle.bitmaps.proofs.DataBytes.{data-length}
 use borrow.Author.Needs.{needs}
 use Rattle.bitmaps.proofs.data.data_size.Statement.{statement}
 use Rattle.bitmaps.proofs.data.data_size.Tie as tie
-use Rattle.bitmaps.proofs.data.data_size.Reads as reads
-use Rattle.bitmaps.proofs.data.data_size.Lts as lts
 
 -- src/data.rt:27:9
 returns : tie.Need-returns

@@ -2,9 +2,6 @@ use Rattle.bitmaps.specs.Picture.{offsetOf}
 use borrow.Author.Needs.{needs}
 use Rattle.bitmaps.proofs.data.offset_of.Statement.{statement}
 use Rattle.bitmaps.proofs.data.offset_of.Tie as tie
-use Rattle.bitmaps.proofs.data.offset_of.Reads as reads
-use Rattle.bitmaps.proofs.data.offset_of.Lts as lts
-use Rattle.reads.proofs.u32_at.Reads as u32-at-reads
 
 -- src/data.rt:58:31
 cast-u32-at : tie.Need-cast-u32-at

@@ -5,9 +5,6 @@ use Rattle.bitmaps.proofs.DataBytes.{data-byte, data-past}
 use borrow.Author.Needs.{needs}
 use Rattle.bitmaps.proofs.data.row_byte.Statement.{statement}
 use Rattle.bitmaps.proofs.data.row_byte.Tie as tie
-use Rattle.bitmaps.proofs.data.row_byte.Reads as reads
-use Rattle.bitmaps.proofs.data.row_byte.Lts as lts
-use Rattle.reads.proofs.byte_at.Reads as byte-at-reads
 
 -- src/data.rt:66:9
 returns : tie.Need-returns

@@ -4,9 +4,6 @@ use Rattle.bitmaps.proofs.LastByte.{stride-small, no-pad}
 use borrow.Author.Needs.{needs}
 use Rattle.bitmaps.proofs.data.row_stride.Statement.{statement}
 use Rattle.bitmaps.proofs.data.row_stride.Tie as tie
-use Rattle.bitmaps.proofs.data.row_stride.Reads as reads
-use Rattle.bitmaps.proofs.data.row_stride.Lts as lts
-use Rattle.bitmaps.proofs.data.row_bytes.Reads as row-bytes-reads
 
 -- src/data.rt:49:9
 returns : tie.Need-returns

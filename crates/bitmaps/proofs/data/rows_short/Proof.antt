@@ -6,11 +6,6 @@ use Rattle.bitmaps.proofs.LastByte.{no-rows, no-columns, last-byte}
 use borrow.Author.Needs.{needs}
 use Rattle.bitmaps.proofs.data.rows_short.Statement.{statement}
 use Rattle.bitmaps.proofs.data.rows_short.Tie as tie
-use Rattle.bitmaps.proofs.data.rows_short.Reads as reads
-use Rattle.bitmaps.proofs.data.rows_short.Lts as lts
-use Rattle.bitmaps.proofs.data.data_size.Reads as data-size-reads
-use Rattle.bitmaps.proofs.data.offset_of.Reads as offset-of-reads
-use Rattle.bitmaps.proofs.data.row_stride.Reads as row-stride-reads
 
 -- src/data.rt:80:9
 returns : tie.Need-returns

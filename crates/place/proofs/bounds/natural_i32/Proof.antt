@@ -1,7 +1,7 @@
 use native.Mathlib.Omega.{arith}
 use Rattle.place.proofs.Whole.{in-range-small}
 use mir.Syntax.{w32}
-use mir.Facts.{toZ-ofZ, fits-natAbs}
+use mir.Facts.{toZ-ofZ}
 use borrow.Author.Needs.{needs}
 use Rattle.place.proofs.bounds.natural_i32.Statement.{statement}
 use Rattle.place.proofs.bounds.natural_i32.Tie as tie

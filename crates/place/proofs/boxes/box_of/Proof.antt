@@ -1,16 +1,10 @@
 use mir.Syntax.{w16, w32}
-use native.Mathlib.Omega.{arith}
 use Rattle.reads.proofs.Signed.{back}
 use Rattle.place.proofs.Held.{placed, natural, natural-above}
 use Rattle.place.proofs.Whole.{difference}
 use borrow.Author.Needs.{needs}
 use Rattle.place.proofs.boxes.box_of.Statement.{statement}
 use Rattle.place.proofs.boxes.box_of.Tie as tie
-use Rattle.place.proofs.boxes.box_of.Reads as reads
-use Rattle.place.proofs.boxes.box_of.Lts as lts
-use Rattle.place.proofs.bounds.height_of.Reads as height-of-reads
-use Rattle.place.proofs.bounds.natural_i16.Reads as natural-i16-reads
-use Rattle.place.proofs.bounds.natural_i32.Reads as natural-i32-reads
 
 -- src/boxes.rt:41:9
 natural-i16-requires : tie.Need-natural-i16-requires

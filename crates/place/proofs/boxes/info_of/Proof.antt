@@ -5,11 +5,6 @@ use Rattle.place.specs.Info.{infoOf}
 use borrow.Author.Needs.{needs}
 use Rattle.place.proofs.boxes.info_of.Statement.{statement}
 use Rattle.place.proofs.boxes.info_of.Tie as tie
-use Rattle.place.proofs.boxes.info_of.Reads as reads
-use Rattle.place.proofs.boxes.info_of.Lts as lts
-use Rattle.metrics.proofs.metrics_of.Reads as metrics-of-reads
-use Rattle.place.proofs.boxes.box_of.Reads as box-of-reads
-use Rattle.place.proofs.boxes.placeable.Reads as placeable-reads
 
 -- src/boxes.rt:59:9
 metrics-of-requires : tie.Need-metrics-of-requires

@@ -4,12 +4,6 @@ use Rattle.place.specs.Info.{placeable}
 use borrow.Author.Needs.{needs}
 use Rattle.place.proofs.boxes.placeable.Statement.{statement}
 use Rattle.place.proofs.boxes.placeable.Tie as tie
-use Rattle.place.proofs.boxes.placeable.Reads as reads
-use Rattle.place.proofs.boxes.placeable.Lts as lts
-use Rattle.place.proofs.bounds.height_of.Reads as height-of-reads
-use Rattle.place.proofs.bounds.in_range.Reads as in-range-reads
-use Rattle.place.proofs.bounds.is_natural.Reads as is-natural-reads
-use Rattle.place.proofs.boxes.at_most.Reads as at-most-reads
 
 -- src/boxes.rt:30:5
 is-natural-requires : tie.Need-is-natural-requires

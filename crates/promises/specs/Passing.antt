@@ -1,0 +1,76 @@
+-- When a font passes vetting, in plain logic. From document 01, "Vetting": "Passes when loading does and, in this order: no 13; the
+-- bounds hold (11); every property's strings end (18); then for each code 0 to 65,535 that has a glyph: 10, 11, 12, 14 over all rows,
+-- 17, 18 don't occur."
+use Prim.Native.Nat.{ℕ, _+_, _*_, _/_, _≤_, _<_}
+use mathlib.Core.Path.{_≡_}
+use mathlib.Core.Bool.{true}
+use mathlib.Core.List.{List}
+use lib.IntN.{ℤ, pos, natAbs}
+use lib.Signed.{_≤ℤ_}
+use Rattle.reads.specs.Num.{byteAt, u32At}
+use Rattle.tables.specs.declared.GlyphNameData.{GlyphNameData}
+use Rattle.tables.specs.declared.MetricsUnpacked.{MetricsUnpacked}
+use Rattle.tables.specs.declared.PropertiesData.{PropertiesData}
+use Rattle.tables.specs.declared.Record.{Record}
+use Rattle.load.specs.Load.{loaded}
+use Rattle.load.specs.declared.Loaded.{Loaded}
+use Rattle.lookup.specs.Lookup.{glyphOf}
+use Rattle.lookup.specs.declared.Found.{Found}
+use Rattle.names.specs.Strings.{EndsIn}
+use Rattle.metrics.specs.Measure.{metricsAt}
+use Rattle.bitmaps.specs.Picture.{rowOf}
+use Rattle.place.specs.Bounds.{heightOf, boundsOf}
+
+-- this code has this glyph
+abbrev pub HasGlyph : List ℕ → Record → ℕ → ℕ → Type 0
+HasGlyph s rec code g = glyphOf s (rec .codes) code ≡ Found.Glyph (record { 0 = g })
+
+-- not 11, of the bounds: "ascent and width at least 0, the sum 0 to 32,767"
+pub record BoundsGood (m : MetricsUnpacked) : Type 0 where
+  pub ascent : pos 0 ≤ℤ m .ascent
+  pub width : pos 0 ≤ℤ m .width
+  pub least : pos 0 ≤ℤ heightOf m
+  pub most : heightOf m ≤ℤ pos 32767
+
+-- not 11, of a glyph under the bounds' ascent: "width, ascent and left bearing are at least 0, ascent + descent is 0 to 32,767, and
+-- ascent is at most the maximum bounds' ascent"
+pub record MetricsGood (m : MetricsUnpacked) (top : ℤ) : Type 0 where
+  pub width : pos 0 ≤ℤ m .width
+  pub ascent : pos 0 ≤ℤ m .ascent
+  pub left : pos 0 ≤ℤ m .left
+  pub least : pos 0 ≤ℤ heightOf m
+  pub most : heightOf m ≤ℤ pos 32767
+  pub below : m .ascent ≤ℤ top
+
+-- a property's strings end: its name, and its value where the flag is not 0
+pub record PropertyGood (s : List ℕ) (p : PropertiesData) (i : ℕ) : Type 0 where
+  pub name : EndsIn s (p .strings) (p .size) (u32At (p .big) s (p .records + 9 * i))
+  pub value : (byteAt s (p .records + 9 * i + 4) ≡ 0 → ⊥) → EndsIn s (p .strings) (p .size) (u32At (p .big) s (p .records + 9 * i + 5))
+
+-- a glyph's name, not 17 and not 18
+pub record NameGood (s : List ℕ) (n : GlyphNameData) (g : ℕ) : Type 0 where
+  pub counted : g < n .count
+  pub ends : EndsIn s (n .strings) (n .size) (u32At (n .big) s (n .offsets + 4 * g))
+
+-- a glyph that no code can come to grief with
+pub record GlyphGood (s : List ℕ) (rec : Record) (g : ℕ) : Type 0 where
+  -- not 10
+  pub measured : g < rec .metrics .count
+  -- not 11
+  pub metrics : MetricsGood (metricsAt s (rec .metrics) g) (boundsOf rec .ascent)
+  -- not 12
+  pub pictured : g < rec .bitmaps .count
+  -- not 14: every column of every row has its byte in the bitmap data
+  pub rows : (r c : ℕ) → r < natAbs (heightOf (metricsAt s (rec .metrics) g)) → c < natAbs (metricsAt s (rec .metrics) g .width)
+      → rowOf s (rec .bitmaps) g (natAbs (metricsAt s (rec .metrics) g .width)) r + c / 8 < rec .bitmaps .size
+  -- not 17, not 18
+  pub named : NameGood s (rec .names) g
+
+pub record Passes (s : List ℕ) (rec : Record) : Type 0 where
+  pub loads : loaded s ≡ Loaded.Font rec
+  -- not 13: one-byte scan units, the top bit leftmost
+  pub unit : rec .bitmaps .unit ≡ 0
+  pub top : rec .bitmaps .top ≡ true
+  pub bounds : BoundsGood (boundsOf rec)
+  pub properties : (i : ℕ) → i < rec .props .count → PropertyGood s (rec .props) i
+  pub codes : (code g : ℕ) → code < 65536 → HasGlyph s rec code g → GlyphGood s rec g
