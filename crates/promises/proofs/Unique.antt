@@ -1,8 +1,11 @@
 -- Each public function's contract, as it stands in the source, determines its answer: any two results that satisfy it for the same
 -- arguments are equal.
-use mathlib.Core.Path.{sym, _∙_}
+use mathlib.Core.Path.{_≡_, sym, ap, _∙_}
+use mathlib.Core.List.{List}
+use Prim.Native.Nat.{ℕ}
 use denote.Ref.{now}
-use Rattle.promises.specs.Unique.{Fixes, FixesBytes}
+use Rattle.hexline.specs.Fill.{hexLeaves}
+use Rattle.promises.specs.Unique.{Fixes, FixesBytes, FixesLent}
 use Rattle.reads.proofs.byte_at.Kinds as byte-at-kinds
 use Rattle.reads.proofs.byte_at.Reads as byte-at-reads
 use Rattle.reads.proofs.u16_at.Kinds as u16-at-kinds
@@ -65,6 +68,34 @@ use Rattle.names.proofs.part_of.Kinds as part-of-kinds
 use Rattle.names.proofs.part_of.Reads as part-of-reads
 use Rattle.names.proofs.name_bytes.Kinds as name-bytes-kinds
 use Rattle.names.proofs.name_bytes.Reads as name-bytes-reads
+use Rattle.bitmaps.proofs.unreadable.Kinds as unreadable-kinds
+use Rattle.bitmaps.proofs.unreadable.Reads as unreadable-reads
+use Rattle.bitmaps.proofs.row_bytes.Kinds as row-bytes-kinds
+use Rattle.bitmaps.proofs.row_bytes.Reads as row-bytes-reads
+use Rattle.bitmaps.proofs.row_stride.Kinds as row-stride-kinds
+use Rattle.bitmaps.proofs.row_stride.Reads as row-stride-reads
+use Rattle.bitmaps.proofs.offset_of.Kinds as offset-of-kinds
+use Rattle.bitmaps.proofs.offset_of.Reads as offset-of-reads
+use Rattle.bitmaps.proofs.row_byte.Kinds as row-byte-kinds
+use Rattle.bitmaps.proofs.row_byte.Reads as row-byte-reads
+use Rattle.bitmaps.proofs.rows_short.Kinds as rows-short-kinds
+use Rattle.bitmaps.proofs.rows_short.Reads as rows-short-reads
+use Rattle.hexline.proofs.hex_read.Kinds as hex-read-kinds
+use Rattle.hexline.proofs.hex_read.Reads as hex-read-reads
+use Rattle.lookup.proofs.code_range.Kinds as code-range-kinds
+use Rattle.lookup.proofs.code_range.Reads as code-range-reads
+use Rattle.names.proofs.name_of.Kinds as name-of-kinds
+use Rattle.names.proofs.name_of.Reads as name-of-reads
+use Rattle.place.proofs.bounds_hold.Kinds as bounds-hold-kinds
+use Rattle.place.proofs.bounds_hold.Reads as bounds-hold-reads
+use Rattle.place.proofs.info_of.Kinds as info-of-kinds
+use Rattle.place.proofs.info_of.Reads as info-of-reads
+use Rattle.props.proofs.prop_of.Kinds as prop-of-kinds
+use Rattle.props.proofs.prop_of.Reads as prop-of-reads
+use Rattle.vet.proofs.vet.Kinds as vet-kinds
+use Rattle.vet.proofs.vet.Reads as vet-reads
+use Rattle.hexline.proofs.fill_bytes.Kinds as fill-bytes-kinds
+use Rattle.hexline.proofs.fill_bytes.Reads as fill-bytes-reads
 
 pub byte-at-unique : Fixes 1 byte-at-kinds.ps byte-at-kinds.r byte-at-reads.Post
 byte-at-unique κs a r₁ r₂ x₁ x₂ p q = p ∙ sym q
@@ -153,8 +184,55 @@ get-accelerators-unique κs a r₁ r₂ x₁ x₂ p q = p ∙ sym q
 pub dimensions-unique : Fixes 1 dimensions-kinds.ps dimensions-kinds.r dimensions-reads.Post
 dimensions-unique κs a r₁ r₂ x₁ x₂ p q = p ∙ sym q
 
+pub unreadable-unique : Fixes 0 unreadable-kinds.ps unreadable-kinds.r unreadable-reads.Post
+unreadable-unique κs a r₁ r₂ x₁ x₂ p q = p ∙ sym q
+
+pub row-bytes-unique : Fixes 0 row-bytes-kinds.ps row-bytes-kinds.r row-bytes-reads.Post
+row-bytes-unique κs a r₁ r₂ x₁ x₂ p q = p ∙ sym q
+
+pub row-stride-unique : Fixes 0 row-stride-kinds.ps row-stride-kinds.r row-stride-reads.Post
+row-stride-unique κs a r₁ r₂ x₁ x₂ p q = p ∙ sym q
+
+pub offset-of-unique : Fixes 1 offset-of-kinds.ps offset-of-kinds.r offset-of-reads.Post
+offset-of-unique κs a r₁ r₂ x₁ x₂ p q = p ∙ sym q
+
+pub row-byte-unique : Fixes 1 row-byte-kinds.ps row-byte-kinds.r row-byte-reads.Post
+row-byte-unique κs a r₁ r₂ x₁ x₂ p q = p ∙ sym q
+
+pub rows-short-unique : Fixes 1 rows-short-kinds.ps rows-short-kinds.r rows-short-reads.Post
+rows-short-unique κs a r₁ r₂ x₁ x₂ p q = p ∙ sym q
+
+pub hex-read-unique : Fixes 1 hex-read-kinds.ps hex-read-kinds.r hex-read-reads.Post
+hex-read-unique κs a r₁ r₂ x₁ x₂ p q = p ∙ sym q
+
+pub code-range-unique : Fixes 0 code-range-kinds.ps code-range-kinds.r code-range-reads.Post
+code-range-unique κs a r₁ r₂ x₁ x₂ p q = p ∙ sym q
+
+pub name-of-unique : Fixes 1 name-of-kinds.ps name-of-kinds.r name-of-reads.Post
+name-of-unique κs a r₁ r₂ x₁ x₂ p q = p ∙ sym q
+
+pub bounds-hold-unique : Fixes 0 bounds-hold-kinds.ps bounds-hold-kinds.r bounds-hold-reads.Post
+bounds-hold-unique κs a r₁ r₂ x₁ x₂ p q = p ∙ sym q
+
+pub info-of-unique : Fixes 1 info-of-kinds.ps info-of-kinds.r info-of-reads.Post
+info-of-unique κs a r₁ r₂ x₁ x₂ p q = p ∙ sym q
+
+pub prop-of-unique : Fixes 1 prop-of-kinds.ps prop-of-kinds.r prop-of-reads.Post
+prop-of-unique κs a r₁ r₂ x₁ x₂ p q = p ∙ sym q
+
+pub vet-unique : Fixes 1 vet-kinds.ps vet-kinds.r vet-reads.Post
+vet-unique κs a r₁ r₂ x₁ x₂ p q = p ∙ sym q
+
 pub part-of-unique : FixesBytes 1 part-of-kinds.ps part-of-kinds.r part-of-reads.Post (λ κs r. now r)
 part-of-unique κs a r₁ r₂ x₁ x₂ p q = p ∙ sym q
 
 pub name-bytes-unique : FixesBytes 1 name-bytes-kinds.ps name-bytes-kinds.r name-bytes-reads.Post (λ κs r. now r)
 name-bytes-unique κs a r₁ r₂ x₁ x₂ p q = p ∙ sym q
+
+-- an answer that is one value, and a buffer that is left as the answer says
+both-fixed : {A : Type 0} {x r₁ r₂ : A} {n₁ n₂ : List ℕ} (left : A → List ℕ) → r₁ ≡ x → r₂ ≡ x → n₁ ≡ left r₁ → n₂ ≡ left r₂ → (r₁ ≡ r₂) × (n₁ ≡ n₂)
+both-fixed left p q l m = let e = p ∙ sym q in (e, l ∙ ap left e ∙ sym m)
+
+pub fill-bytes-unique : FixesLent 2 fill-bytes-kinds.ps fill-bytes-kinds.r fill-bytes-reads.Post (λ κs x. now (x .1 .0))
+fill-bytes-unique κs a r₁ r₂ x₁ x₂ p q =
+    both-fixed (λ r. hexLeaves (now (a .0)) r (now (a .1 .0))) (p .0) (q .0) (p .1) (q .1)

@@ -19,3 +19,9 @@ abbrev pub FixesBytes : (n : ℕ) (ps : List (PK n)) (r : RK n) → Out n ps r �
 FixesBytes n ps r Contract bytes =
     (κs : Lfts n) (a : Dens κs ps) (r₁ r₂ : resT r κs .Denot) (x₁ x₂ : AtExit (endedOf n ps r) κs)
     → Contract κs a r₁ x₁ → Contract κs a r₂ x₂ → bytes κs r₁ ≡ bytes κs r₂
+
+-- the same of a function that is lent a buffer to write: results that it allows are equal, and so is what they leave in the buffer
+abbrev pub FixesLent : (n : ℕ) (ps : List (PK n)) (r : RK n) → Out n ps r → ((κs : Lfts n) → AtExit (endedOf n ps r) κs → List ℕ) → Type 0
+FixesLent n ps r Contract left =
+    (κs : Lfts n) (a : Dens κs ps) (r₁ r₂ : resT r κs .Denot) (x₁ x₂ : AtExit (endedOf n ps r) κs)
+    → Contract κs a r₁ x₁ → Contract κs a r₂ x₂ → (r₁ ≡ r₂) × (left κs x₁ ≡ left κs x₂)

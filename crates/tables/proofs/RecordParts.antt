@@ -1,8 +1,9 @@
 -- What the record's test says of each part, and of the regions that strings and bitmap data stand in.
 use mathlib.Core.Path.{_≡_}
 use mathlib.Core.Bool.{true, _&&_}
-use Prim.Native.Nat.{ℕ, _*_}
-use Rattle.reads.proofs.Tests.{both}
+use Prim.Native.Nat.{ℕ, zero, suc, _*_, _<_}
+use native.Mathlib.Omega.{arith}
+use Rattle.reads.proofs.Tests.{never, both}
 use Rattle.tables.specs.Fits.{inside, padFits, propsFit, metricsFit, bitmapsFit, codesFit, namesFit, recordFits}
 use Rattle.tables.specs.declared.Record.{Record}
 
@@ -12,6 +13,10 @@ pub record PartsFit (len : ℕ) (rec : Record) : Type 0 where
   pub bitmaps : bitmapsFit len (rec .bitmaps) ≡ true
   pub codes : codesFit len (rec .codes) ≡ true
   pub names : namesFit len (rec .names) ≡ true
+
+some-pad : (pad : ℕ) → padFits pad ≡ true → 0 < pad
+some-pad zero e = never e
+some-pad (suc n) e = omega arith
 
 module _ (len : ℕ) (rec : Record) (e : recordFits len rec ≡ true) where
   pub parts-fit : PartsFit len rec
@@ -39,9 +44,18 @@ module _ (len : ℕ) (rec : Record) (e : recordFits len rec ≡ true) where
       let n = rec .names in
       both (inside len (n .offsets) (4 * n .count)) (inside len (n .strings) (n .size)) (parts-fit .names) .1
 
-  pub bitmap-bytes : inside len (rec .bitmaps .bits) (rec .bitmaps .size) ≡ true
+  -- the bitmaps' two regions, and then the row pad
+  bitmap-parts : (inside len (rec .bitmaps .offsets) (4 * rec .bitmaps .count) && inside len (rec .bitmaps .bits) (rec .bitmaps .size) ≡ true)
+      × (padFits (rec .bitmaps .pad) ≡ true)
   unfolding bitmapsFit
+  bitmap-parts =
+      let b = rec .bitmaps in
+      both (inside len (b .offsets) (4 * b .count) && inside len (b .bits) (b .size)) (padFits (b .pad)) (parts-fit .bitmaps)
+
+  pub bitmap-bytes : inside len (rec .bitmaps .bits) (rec .bitmaps .size) ≡ true
   bitmap-bytes =
       let b = rec .bitmaps in
-      let regions = inside len (b .offsets) (4 * b .count) && inside len (b .bits) (b .size) in
-      both (inside len (b .offsets) (4 * b .count)) (inside len (b .bits) (b .size)) (both regions (padFits (b .pad)) (parts-fit .bitmaps) .0) .1
+      both (inside len (b .offsets) (4 * b .count)) (inside len (b .bits) (b .size)) (bitmap-parts .0) .1
+
+  pub pad-above-0 : 0 < rec .bitmaps .pad
+  pad-above-0 = some-pad (rec .bitmaps .pad) (bitmap-parts .1)

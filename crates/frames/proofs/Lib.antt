@@ -1,0 +1,6 @@
+pub mod Chain
+pub mod HexRuns
+pub mod RowRuns
+pub mod FrameLength
+pub mod FrameRoom
+pub mod FramesRange

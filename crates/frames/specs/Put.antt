@@ -1,0 +1,52 @@
+-- The dump's lines written into a lent buffer. From document 01: "A refusal returns its number, a place and no other value; lent
+-- buffers keep their contents"; 15 "an argument other than the text outside its limits", here a buffer shorter than the line.
+use Prim.Native.Nat.{ℕ, _+_, _/_, _%_}
+use mathlib.Core.Path.{_≡_}
+use mathlib.Core.Bool.{cond}
+use mathlib.Core.List.{List, [], _∷_}
+use lib.ListN.{length}
+use lib.Seq.{sets}
+use lib.Dec.{ltb}
+use lib.IntN.{pos}
+use Rattle.reads.specs.Said.{Said, refusal, says, refuses}
+use Rattle.tables.specs.Fits.{recordFits}
+use Rattle.tables.specs.declared.Record.{Record}
+use Rattle.frames.specs.Frames.{frameOf}
+use Rattle.frames.specs.declared.Printed.{Printed}
+
+-- `refused NN`: the word, a space, two decimal digits, a newline
+abbrev pub refusedLine : ℕ → List ℕ
+refusedLine n = 114 ∷ 101 ∷ 102 ∷ 117 ∷ 115 ∷ 101 ∷ 100 ∷ 32 ∷ (48 + n / 10) ∷ (48 + n % 10) ∷ 10 ∷ []
+
+-- a line into a buffer of `room` bytes: 15, or how many bytes it has
+abbrev pub lineInto : List ℕ → ℕ → Printed
+lineInto line room = cond (ltb room (length line)) (Printed.Refused (refusal 15 0)) (Printed.Bytes (length line))
+
+-- what it leaves there: the line at the start and the rest as it was
+abbrev pub lineLeaves : List ℕ → Printed → List ℕ → List ℕ
+lineLeaves line (Printed.Bytes n) old = sets old 0 line
+lineLeaves line (Printed.Refused r) old = old
+
+-- `put_frame`: 6, 15
+unfoldable pub frameInto : List ℕ → Record → ℕ → ℕ → Printed
+frameInto s rec code room = cond (recordFits (length s) rec) (lineInto (frameOf s rec code) room) (Printed.Refused (refusal 6 0))
+
+abbrev pub frameLeaves : List ℕ → Record → ℕ → Printed → List ℕ → List ℕ
+frameLeaves s rec code answer old = lineLeaves (frameOf s rec code) answer old
+
+-- `put_refused`: 15
+abbrev pub refusedInto : ℕ → ℕ → Printed
+refusedInto n room = lineInto (refusedLine n) room
+
+abbrev pub refusedLeaves : ℕ → Printed → List ℕ → List ℕ
+refusedLeaves n answer old = lineLeaves (refusedLine n) answer old
+
+abbrev pub saidPrinted : Printed → Said
+saidPrinted (Printed.Bytes n) = says (pos n ∷ [])
+saidPrinted (Printed.Refused r) = refuses r
+
+-- what a writer did: it stored the characters `vs` from `at` on, and `next` is the place after them
+pub record Put (before : List ℕ) (at : ℕ) (vs : List ℕ) (next : ℕ) (after : List ℕ) : Type 0 where
+  pub up-to : next ≡ at + length vs
+  pub stored : after ≡ sets before at vs
+  pub same : length after ≡ length before
