@@ -24,19 +24,21 @@ def public_functions():
 
 
 def fixed():
-    """(crate, name) of each function whose own contract, and no other, a theorem of Unique.antt is about"""
+    """(crate, name), and whether the buffer is in it, of each theorem of Unique.antt: one about that
+    function's own contract, and no other"""
     with open(os.path.join(ROOT, "crates", "promises", "proofs", "Unique.antt"), encoding="utf-8") as f:
         text = f.read()
     for crate, name, short in re.findall(r"^use Rattle·(\w+)\.proofs\.(\w+)\.Reads as (\S+)-reads$", text, re.M):
         kinds = f"use Rattle.{crate}.proofs.{name}.Kinds as {short}-kinds"
         s = re.escape(short)
-        theorem = rf"^pub {s}-unique : Fixes(Bytes|Lent)? \d+ {s}-kinds\.ps {s}-kinds\.r {s}-reads\.Post\b"
-        if kinds in text.split("\n") and re.search(theorem, text, re.M):
-            yield crate, name
+        theorem = rf"^pub {s}-unique : Fixes(Bytes|Lent|) \d+ {s}-kinds\.ps {s}-kinds\.r {s}-reads\.Post\b"
+        stated = re.search(theorem, text, re.M)
+        if kinds in text.split("\n") and stated:
+            yield (crate, name), stated[1] == "Lent"
 
 
 def main():
-    theorems, found, bad = set(fixed()), set(), []
+    theorems, found, bad = dict(fixed()), set(), []
     for crate, name, clauses in public_functions():
         found.add((crate, name))
         if re.search(r"\brequires\b", clauses):
@@ -45,7 +47,9 @@ def main():
             bad.append(f"{crate}::{name} has no ensures")
         if (crate, name) not in theorems:
             bad.append(f"{crate}::{name} has no theorem that its contract determines its answer")
-    bad += [f"{crate}::{name} has a theorem, but is no public function" for crate, name in sorted(theorems - found)]
+        elif theorems[crate, name] != ("&mut" in clauses):
+            bad.append(f"{crate}::{name} has a theorem that leaves out the lent buffer, or speaks of none")
+    bad += [f"{crate}::{name} has a theorem, but is no public function" for crate, name in sorted(set(theorems) - found)]
     for line in bad:
         print(line)
     print(f"contracts: {len(found)} public functions, {len(bad)} faults")

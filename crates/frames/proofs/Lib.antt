@@ -4,3 +4,4 @@ pub mod RowRuns
 pub mod FrameLength
 pub mod FrameRoom
 pub mod FramesRange
+pub mod DumpRange

@@ -1,5 +1,5 @@
 -- F's dump, computed from the definitions, is what document 01 prints.
-use mathlib.Core.Path.{_≡_, refl}
+use mathlib.Core.Path.{_≡_, refl, _∙_}
 use Rattle.reads.specs.Num.{digits, numAt, signed, less128}
 use Rattle.tables.specs.Properties.{propertiesTable, propertiesAt}
 use Rattle.tables.specs.Accelerators.{acceleratorsTable, acceleratorsAt}
@@ -10,6 +10,7 @@ use Rattle.tables.specs.Names.{namesTable, namesAt}
 use Rattle.load.specs.Gather.{finished}
 use Rattle.load.specs.Load.{tableAt, entryOf, entryAt, entriesFrom, loaded}
 use Rattle.lookup.specs.Lookup.{slotOf, glyphOf}
+use Rattle.lookup.specs.CodeRange.{codeRange}
 use Rattle.metrics.specs.Measure.{metricsOf}
 use Rattle.names.specs.Strings.{zeroFrom, stringAt}
 use Rattle.names.specs.Names.{nameOf}
@@ -20,19 +21,24 @@ use Rattle.bitmaps.specs.Picture.{offsetOf, rowsShort}
 use Rattle.place.specs.Bounds.{boundsHold}
 use Rattle.place.specs.Info.{placeable, infoOf}
 use Rattle.vet.specs.First.{firstFault}
-use Rattle.vet.specs.Vet.{propFault, boxFault, codeFault, vetRecord, vetted}
+use Rattle.vet.specs.Vet.{propFault, boxFault, codeFault}
 use Rattle.hexline.specs.Lines.{linesOf, digitOf, allDigits, goodLine, bytesFrom, hexRead, pairs, allPairs, hexBytes}
 use Rattle.frames.specs.Hex.{hexDigit, hexAll, field}
 use Rattle.frames.specs.Frames.{rowFrom, rowsFrom, frame, frameOf, framesFrom}
 use Rattle.frames.specs.Dump.{dumped}
+use Rattle.frames.proofs.DumpRange.{readInRange, dump-in-range}
 use Rattle.promises.specs.Typed.{typed, typedLines}
 use Rattle.promises.specs.FontF.{linesF, framesF}
 
-pub dump-F : dumped (typedLines linesF) ≡ typedLines framesF
+-- of the two codes in the table's range
+in-range : readInRange (hexBytes (typedLines linesF)) (hexRead (typedLines linesF)) ≡ typedLines framesF
 unfolding linesF framesF typed typedLines hexBytes linesOf digitOf goodLine bytesFrom hexRead digits numAt signed
     less128 propertiesTable propertiesAt acceleratorsTable acceleratorsAt wideAt narrowAt metricsTable metricsAt
     bitmapsTable bitmapsAt codesTable codesAt namesTable namesAt finished tableAt entryOf entryAt entriesFrom loaded
     slotOf glyphOf metricsOf zeroFrom stringAt nameOf propOf some bytesPast rowsShort boundsHold placeable infoOf
-    firstFault codeFault vetRecord vetted hexDigit field frame frameOf framesFrom dumped offsetOf propFault boxFault
-    allDigits pairs allPairs hexAll rowFrom rowsFrom
-dump-F = refl
+    firstFault codeFault hexDigit field frame frameOf framesFrom offsetOf propFault boxFault
+    allDigits pairs allPairs hexAll rowFrom rowsFrom codeRange
+in-range = refl
+
+pub dump-F : dumped (typedLines linesF) ≡ typedLines framesF
+dump-F = dump-in-range (typedLines linesF) ∙ in-range

@@ -5,6 +5,7 @@ use mathlib.Core.List.{List}
 use Prim.Native.Nat.{ℕ}
 use denote.Ref.{now}
 use Rattle.hexline.specs.Fill.{hexLeaves}
+use Rattle.frames.specs.Put.{frameLeaves, refusedLeaves}
 use Rattle.promises.specs.Unique.{Fixes, FixesBytes, FixesLent}
 use Rattle.reads.proofs.byte_at.Kinds as byte-at-kinds
 use Rattle.reads.proofs.byte_at.Reads as byte-at-reads
@@ -96,6 +97,10 @@ use Rattle.vet.proofs.vet.Kinds as vet-kinds
 use Rattle.vet.proofs.vet.Reads as vet-reads
 use Rattle.hexline.proofs.fill_bytes.Kinds as fill-bytes-kinds
 use Rattle.hexline.proofs.fill_bytes.Reads as fill-bytes-reads
+use Rattle.frames.proofs.put_frame.Kinds as put-frame-kinds
+use Rattle.frames.proofs.put_frame.Reads as put-frame-reads
+use Rattle.frames.proofs.put_refused.Kinds as put-refused-kinds
+use Rattle.frames.proofs.put_refused.Reads as put-refused-reads
 
 pub byte-at-unique : Fixes 1 byte-at-kinds.ps byte-at-kinds.r byte-at-reads.Post
 byte-at-unique κs a r₁ r₂ x₁ x₂ p q = p ∙ sym q
@@ -236,3 +241,10 @@ both-fixed left p q l m = let e = p ∙ sym q in (e, l ∙ ap left e ∙ sym m)
 pub fill-bytes-unique : FixesLent 2 fill-bytes-kinds.ps fill-bytes-kinds.r fill-bytes-reads.Post (λ κs x. now (x .1 .0))
 fill-bytes-unique κs a r₁ r₂ x₁ x₂ p q =
     both-fixed (λ r. hexLeaves (now (a .0)) r (now (a .1 .0))) (p .0) (q .0) (p .1) (q .1)
+
+pub put-frame-unique : FixesLent 2 put-frame-kinds.ps put-frame-kinds.r put-frame-reads.Post (λ κs x. now (x .1 .1 .1 .0))
+put-frame-unique κs a r₁ r₂ x₁ x₂ p q =
+    both-fixed (λ r. frameLeaves (now (a .0)) (a .1 .0) (a .1 .1 .0 .0) r (now (a .1 .1 .1 .0))) (p .0) (q .0) (p .1) (q .1)
+
+pub put-refused-unique : FixesLent 1 put-refused-kinds.ps put-refused-kinds.r put-refused-reads.Post (λ κs x. now (x .1 .0))
+put-refused-unique κs a r₁ r₂ x₁ x₂ p q = both-fixed (λ r. refusedLeaves (a .0) r (now (a .1 .0))) (p .0) (q .0) (p .1) (q .1)
