@@ -1,0 +1,4 @@
+// The dump of standard input.
+fn main() {
+    dumper::run(0);
+}
