@@ -1,0 +1,89 @@
+#!/usr/bin/env python3
+"""Holds what the dump must write to what the model of document 01 says of its inputs: for font F, which
+crates/dump reads, and for each file of crates/dump_files/data; and the files to what make.py makes.
+
+With --write the data, the arguments and the outputs are stored anew."""
+import os
+import re
+import subprocess
+import sys
+
+HERE = os.path.dirname(os.path.abspath(__file__))
+TESTS = os.path.dirname(HERE)
+CRATES = os.path.join(os.path.dirname(TESTS), "crates")
+sys.path.insert(0, TESTS)
+
+from definitions import model  # noqa: E402
+from dump import make  # noqa: E402
+
+# every number that a dump can print: the others are about calls that it does not make
+PRINTED = [1, 2, 3, 4, 5, 6, 7, 8, 10, 11, 12, 13, 14, 17, 18, 20]
+
+
+def path(*parts):
+    return os.path.join(CRATES, *parts)
+
+
+def read(*parts):
+    with open(path(*parts), "rb") as f:
+        return f.read()
+
+
+def store(content, *parts):
+    with open(path(*parts), "wb") as f:
+        f.write(content)
+
+
+def fail(text):
+    print(text)
+    sys.exit(1)
+
+
+def refused(output):
+    """the number of the line `refused NN`, or None"""
+    m = re.fullmatch(rb"refused (\d\d)\n", output)
+    return int(m[1]) if m else None
+
+
+def outputs(inputs):
+    """what is written for each input; its name says whether it is refused"""
+    made = {}
+    for name, text in inputs.items():
+        made[name] = model.dump(text)
+        said = re.match(r"refused_(\d\d)_", name)
+        if refused(made[name]) != (int(said[1]) if said else None):
+            fail("%s: the model says %s" % (name, made[name][:80]))
+    seen = sorted({refused(output) for output in made.values()} - {None})
+    if seen != PRINTED:
+        fail("the inputs show refusals %s" % seen)
+    return made
+
+
+def main():
+    inputs = make.files()
+    written = outputs(inputs)
+    want = {
+        ("dump", "stdin"): make.fonts.F.lstrip().encode(),
+        ("dump", "stdout"): written["f.hex"],
+        ("dump_files", "args"): "".join(name + "\n" for name in inputs).encode(),
+        ("dump_files", "stdout"): b"".join(b"== %s\n" % name.encode() + written[name] for name in inputs),
+    }
+    if sys.argv[1:] == ["--write"]:
+        subprocess.run([sys.executable, os.path.join(HERE, "make.py")], check=True)
+        for parts, content in want.items():
+            store(content, *parts)
+    kept = sorted(os.listdir(path("dump_files", "data")))
+    if kept != sorted(inputs):
+        fail("crates/dump_files/data has %s, make.py makes %s" % (kept, sorted(inputs)))
+    for name, text in inputs.items():
+        if read("dump_files", "data", name) != text:
+            fail("crates/dump_files/data/%s is not what make.py makes" % name)
+    for parts, content in want.items():
+        if read(*parts) != content:
+            fail("crates/%s is not what the model says" % "/".join(parts))
+    refusals = sum(refused(output) is not None for output in written.values())
+    print("dump: %d inputs are as made, %d of them refused; the outputs agree with the model" % (len(inputs), refusals))
+
+
+if __name__ == "__main__":
+    main()
