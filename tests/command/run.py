@@ -109,7 +109,8 @@ def unusable(folder):
     refused("an unknown command", "no command 'draw'", "draw", "f.pcf")
     refused("no font named", "dump takes one font file", "dump")
     refused("two fonts", "dump takes one font file", "dump", "f.pcf", "f.pcf")
-    expect("an empty file", run("dump", store(folder, "empty.pcf", b""), folder=folder), 1, b"refused 01\n", "under 8 bytes")
+    empty = run("dump", store(folder, "empty.pcf", b""), folder=folder)
+    expect("an empty file", empty, 1, b"refused 01\n", "under 8 bytes")
 
 
 def helped(folder):

@@ -1,1 +1,2 @@
 mod LineCounts
+mod FramesFit

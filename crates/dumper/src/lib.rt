@@ -8,32 +8,53 @@ use lookup::code_range;
 use reads::CharCode;
 use tables::Record;
 use vet::Vetted;
+ghost use mathlib.Core.Path.{_≡_};
+ghost use Prim.Native.Nat.{_≤_};
+ghost use lib.ListN.{length};
+ghost use Rattle.vet.specs.Vet.{vetted};
+
+// Stands where no run comes: each caller proves that of its place.
+fn unreached()
+    requires { ⌜ ⊥ ⌝ }
+{}
 
 // The single line `refused NN`.
-fn print_refused(number: u8, out: &mut [u8]) {
+fn print_refused(number: u8, out: &mut [u8])
+    requires { ⌜ 11 ≤ length (now out) ⌝ }
+{
     match put_refused(number, out) {
         Printed::Bytes(n) => {
             io::write_all(1, &out[..n]);
         }
-        Printed::Refused(_) => {}
+        Printed::Refused(_) => {
+            unreached();
+        }
     }
 }
 
-// A code's frame; nothing for a code without glyph.
-fn print_frame(font: &[u8], rec: Record, code: u32, out: &mut [u8]) {
+// A code's frame, nothing for a code without glyph. In a font that passed no frame is refused.
+fn print_frame(font: &[u8], rec: Record, code: u32, out: &mut [u8])
+    requires { ⌜ vetted (now font) ≡ Vetted.Passed rec ⌝ }
+    requires { ⌜ length (now font) ≤ 49152 ⌝ }
+    requires { ⌜ 196642 ≤ length (now out) ⌝ }
+{
     match put_frame(font, rec, CharCode(code), out) {
         Printed::Bytes(n) => {
             io::write_all(1, &out[..n]);
         }
-        Printed::Refused(r) => {
-            print_refused(r.number, out);
+        Printed::Refused(_) => {
+            unreached();
         }
     }
 }
 
 // The frames in the order of their codes. Only codes of the table's range are asked: no other has a
 // glyph.
-fn print_frames(font: &[u8], rec: Record, out: &mut [u8]) {
+fn print_frames(font: &[u8], rec: Record, out: &mut [u8])
+    requires { ⌜ vetted (now font) ≡ Vetted.Passed rec ⌝ }
+    requires { ⌜ length (now font) ≤ 49152 ⌝ }
+    requires { ⌜ 196642 ≤ length (now out) ⌝ }
+{
     let range = code_range(rec.codes);
     let end = range.end;
     let mut code = range.low;
@@ -43,7 +64,10 @@ fn print_frames(font: &[u8], rec: Record, out: &mut [u8]) {
     }
 }
 
-fn print_font(font: &[u8], out: &mut [u8]) {
+fn print_font(font: &[u8], out: &mut [u8])
+    requires { ⌜ length (now font) ≤ 49152 ⌝ }
+    requires { ⌜ 196642 ≤ length (now out) ⌝ }
+{
     match vet::vet(font) {
         Vetted::Passed(rec) => {
             print_frames(font, rec, out);
@@ -54,7 +78,9 @@ fn print_font(font: &[u8], out: &mut [u8]) {
     }
 }
 
-fn print_text(text: &[u8], font: &mut [u8], out: &mut [u8]) {
+fn print_text(text: &[u8], font: &mut [u8], out: &mut [u8])
+    requires { ⌜ 196642 ≤ length (now out) ⌝ }
+{
     match fill_bytes(text, font) {
         HexRead::Bytes(n) => {
             print_font(&font[..n], out);
@@ -68,13 +94,13 @@ fn print_text(text: &[u8], font: &mut [u8], out: &mut [u8]) {
 // Reads the descriptor, a font as lines of hexadecimal digits, and writes to standard output one
 // frame a line for each code with a glyph, or the single line `refused NN`.
 //
-// 49,152 bytes are at most 147,456 characters, two digits and a newline each: a text of one character
-// more is refused, and so is whatever it begins. A frame has six fields of four digits, each with a
-// space, then a name and rows of at most 49,152 bytes each, with a space between and a newline.
+// A font of 49,152 bytes has at most 147,456 characters, two digits and a newline a byte. A longer
+// text is refused with 20, and so are its first 147,457 characters: the rest need not be read. A
+// frame of such a font has at most 196,642 characters.
 pub fn run(fd: i32) {
     let mut text = [0u8; 147457];
     let mut font = [0u8; 49152];
-    let mut out = [0u8; 196640];
+    let mut out = [0u8; 196642];
     let n = io::read_full(fd, &mut text);
     print_text(&text[..n], &mut font, &mut out);
 }

@@ -1,5 +1,6 @@
 use borrow.Author.Needs.{needs}
 use Rattle.dumper.proofs.LineCounts.{frame-counts}
+use Rattle.dumper.proofs.FramesFit.{frame-fits}
 use Rattle.dumper.proofs.print_frame.Statement.{statement}
 use Rattle.dumper.proofs.print_frame.Tie as tie
 
@@ -11,22 +12,24 @@ enum-known-n c = search needs
 
 slice-reshare-prefix-write-all : tie.Need-slice-reshare-prefix-write-all
 slice-reshare-prefix-write-all c =
-    frame-counts _ _ _ _ _ _ _ (c .before .before .before .before .before .put-frame .ensures .1) (c .before .n .given .1)
-    (c .before .before .before .before .before .put-frame .ensures .0) .0
+    let (answer, left) = c .before .before .before .before .before .put-frame .ensures in
+    frame-counts _ _ _ _ _ _ _ answer left (c .before .n .given .1) .0
 
 slice-aggregate-write-all : tie.Need-slice-aggregate-write-all
 slice-aggregate-write-all c =
-    frame-counts _ _ _ _ _ _ _ (c .before .before .before .before .before .before .put-frame .ensures .1) (c .before .before .n .given .1)
-    (c .before .before .before .before .before .before .put-frame .ensures .0) .1
+    let (answer, left) = c .before .before .before .before .before .before .put-frame .ensures in
+    frame-counts _ _ _ _ _ _ _ answer left (c .before .before .n .given .1) .1
 
 write-all-requires : tie.Need-write-all-requires
 write-all-requires c κs = search needs
 
-enum-known-r : tie.Need-enum-known-r
-enum-known-r c = search needs
+enum-told : tie.Need-enum-told
+enum-told c = search needs
 
-print-refused-requires : tie.Need-print-refused-requires
-print-refused-requires c κs = search needs
+unreached-requires : tie.Need-unreached-requires
+unreached-requires c κs =
+    let (passed, (short, enough)) = c .before .before .before .before .before .before .before .before .pre in
+    frame-fits _ _ passed _ _ short enough _ _ (c .before .before .before .before .put-frame .ensures .0) (c .enum-told .given .1)
 
 same-length : tie.Need-same-length
 same-length c = search needs
@@ -49,8 +52,8 @@ print-frame-spec =
     slice-reshare-prefix-write-all
     slice-aggregate-write-all
     write-all-requires
-    enum-known-r
-    print-refused-requires
+    enum-told
+    unreached-requires
     same-length
     returns
     same-length-2

@@ -1,5 +1,6 @@
 use borrow.Author.Needs.{needs}
 use Rattle.dumper.proofs.LineCounts.{line-counts}
+use Rattle.dumper.proofs.FramesFit.{refused-fits}
 use Rattle.dumper.proofs.print_refused.Statement.{statement}
 use Rattle.dumper.proofs.print_refused.Tie as tie
 
@@ -11,19 +12,25 @@ enum-known-n c = search needs
 
 slice-reshare-prefix-write-all : tie.Need-slice-reshare-prefix-write-all
 slice-reshare-prefix-write-all c =
-    line-counts _ _ _ _ _ (c .before .before .before .before .before .put-refused .ensures .1) (c .before .n .given .1)
-    (c .before .before .before .before .before .put-refused .ensures .0) .0
+    let (answer, left) = c .before .before .before .before .before .put-refused .ensures in
+    line-counts _ _ _ _ _ answer left (c .before .n .given .1) .0
 
 slice-aggregate-write-all : tie.Need-slice-aggregate-write-all
 slice-aggregate-write-all c =
-    line-counts _ _ _ _ _ (c .before .before .before .before .before .before .put-refused .ensures .1) (c .before .before .n .given .1)
-    (c .before .before .before .before .before .before .put-refused .ensures .0) .1
+    let (answer, left) = c .before .before .before .before .before .before .put-refused .ensures in
+    line-counts _ _ _ _ _ answer left (c .before .before .n .given .1) .1
 
 write-all-requires : tie.Need-write-all-requires
 write-all-requires c κs = search needs
 
 enum-told : tie.Need-enum-told
 enum-told c = search needs
+
+unreached-requires : tie.Need-unreached-requires
+unreached-requires c κs =
+    let start = c .before .before .before .before .before .before .before in
+    let (answer, left) = c .before .before .before .before .put-refused .ensures in
+    refused-fits (start .args .number) _ _ _ (start .pre) answer (c .enum-told .given .1)
 
 same-length : tie.Need-same-length
 same-length c = search needs
@@ -47,6 +54,7 @@ print-refused-spec =
     slice-aggregate-write-all
     write-all-requires
     enum-told
+    unreached-requires
     same-length
     returns
     same-length-2

@@ -1,3 +1,4 @@
+use native.Mathlib.Omega.{arith}
 use borrow.Author.Needs.{needs}
 use Rattle.hexline.proofs.Filled.{filled}
 use Rattle.dumper.proofs.print_text.Statement.{statement}
@@ -11,14 +12,19 @@ enum-known-n c = search needs
 
 slice-reshare-prefix-print-font : tie.Need-slice-reshare-prefix-print-font
 slice-reshare-prefix-print-font c =
-    filled _ _ _ _ _ (c .before .before .before .before .before .fill-bytes .ensures .0) (c .before .before .before .before .before .fill-bytes .ensures .1) (c .before .n .given .1) .within
+    let (answer, left) = c .before .before .before .before .before .fill-bytes .ensures in
+    filled _ _ _ _ _ answer left (c .before .n .given .1) .within
 
 slice-aggregate-print-font : tie.Need-slice-aggregate-print-font
 slice-aggregate-print-font c =
-    filled _ _ _ _ _ (c .before .before .before .before .before .before .fill-bytes .ensures .0) (c .before .before .before .before .before .before .fill-bytes .ensures .1) (c .before .before .n .given .1) .counted
+    let (answer, left) = c .before .before .before .before .before .before .fill-bytes .ensures in
+    filled _ _ _ _ _ answer left (c .before .before .n .given .1) .counted
 
 print-font-requires : tie.Need-print-font-requires
-print-font-requires c κs = search needs
+print-font-requires c κs =
+    let (answer, left) = c .before .before .before .before .before .before .before .fill-bytes .ensures in
+    let put = filled _ _ _ _ _ answer left (c .before .before .before .n .given .1) in
+    (omega (arith, put .most, put .counted), search needs)
 
 enum-known-r : tie.Need-enum-known-r
 enum-known-r c = search needs
