@@ -9,7 +9,8 @@ import sys
 import tempfile
 
 TESTS = os.path.dirname(os.path.dirname(os.path.abspath(__file__)))
-SCRIPT = os.path.join(os.path.dirname(TESTS), "thalluskin")
+ROOT = os.path.dirname(TESTS)
+SCRIPT = os.path.join(ROOT, "thalluskin")
 sys.path.insert(0, TESTS)
 
 from definitions import model  # noqa: E402
@@ -123,6 +124,9 @@ def helped(folder):
 
 
 def main():
+    # the script builds a program that is missing; one of older sources is made anew here
+    if os.path.exists(os.path.join(ROOT, "target", "bin", "dump")):
+        subprocess.run(["rt", "check", "dump"], cwd=ROOT, stdout=subprocess.DEVNULL, check=True)
     with tempfile.TemporaryDirectory() as folder:
         # the first run may build the program, and says so
         first = run("dump", store(folder, "first.pcf", make.fonts.two_digits()), folder=folder, error=None)
