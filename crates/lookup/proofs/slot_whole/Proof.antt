@@ -3,23 +3,23 @@ use borrow.Author.Needs.{needs}
 use Rattle.lookup.proofs.slot_whole.Statement.{statement}
 use Rattle.lookup.proofs.slot_whole.Tie as tie
 
--- src/lib.rt:35:16
+-- src/lib.rt:43:16
 cast-low2 : tie.Need-cast-low2
 cast-low2 c = search needs
 
--- src/lib.rt:36:17
+-- src/lib.rt:44:17
 cast-high2 : tie.Need-cast-high2
 cast-high2 c = search needs
 
--- src/lib.rt:38:9
+-- src/lib.rt:46:9
 returns : tie.Need-returns
 returns c = rw (lt-leb _ _ (c .if1 .taken))
 
--- src/lib.rt:41:9
+-- src/lib.rt:49:9
 returns-2 : tie.Need-returns-2
 returns-2 c = rw (le-leb _ _ (c .before .if1 .left), lt-leb _ _ (c .if2 .taken))
 
--- src/lib.rt:32:1
+-- src/lib.rt:40:1
 returns-3 : tie.Need-returns-3
 returns-3 c = rw (le-leb _ _ (c .before .if1 .left), le-leb _ _ (c .if2 .left))
 

@@ -16,16 +16,16 @@ Inv-loop src out₀ at n₀ i₀ out n i = (i ≤ length src) × Put out₀ at (
 abbrev μ-loop : tie.MeasureT-loop
 μ-loop src out₀ at n₀ i₀ out n i = length src - i
 
--- src/digits.rt:69:5
+-- src/digits.rt:79:5
 loop-holds : tie.Need-loop-holds Inv-loop μ-loop
 unfolding hexAll
 loop-holds c = search needs
 
--- src/digits.rt:70:22
+-- src/digits.rt:80:22
 shared-slice-read-put-byte : tie.Need-shared-slice-read-put-byte Inv-loop μ-loop
 shared-slice-read-put-byte c = search needs
 
--- src/digits.rt:70:9
+-- src/digits.rt:80:9
 put-byte-requires : tie.Need-put-byte-requires Inv-loop μ-loop
 put-byte-requires c κs =
     let loop = c .before .before .before .loop in
@@ -39,15 +39,15 @@ put-byte-requires c κs =
       length-take-le (loop .i) (args .src .now) (omega arith),
     )
 
--- src/digits.rt:71:9
+-- src/digits.rt:81:9
 add-i : tie.Need-add-i Inv-loop μ-loop
 add-i c = search needs
 
--- src/digits.rt:69:5
+-- src/digits.rt:79:5
 loop-less : tie.Need-loop-less Inv-loop μ-loop
 loop-less c = search needs
 
--- src/digits.rt:69:5
+-- src/digits.rt:79:5
 loop-again : tie.Need-loop-again Inv-loop μ-loop
 loop-again c =
     let loop = c .before .before .before .before .before .before .loop in
@@ -57,11 +57,11 @@ loop-again c =
           (then (loop .inv .1) (c .before .before .put-byte .ensures)),
     )
 
--- src/digits.rt:63:1
+-- src/digits.rt:73:1
 same-length : tie.Need-same-length Inv-loop μ-loop
 same-length c = search needs
 
--- src/digits.rt:63:1
+-- src/digits.rt:73:1
 returns : tie.Need-returns Inv-loop μ-loop
 returns c =
     let loop = c .before .loop in

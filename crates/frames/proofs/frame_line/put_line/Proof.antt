@@ -8,11 +8,11 @@ use borrow.Author.Needs.{needs}
 use Rattle.frames.proofs.frame_line.put_line.Statement.{statement}
 use Rattle.frames.proofs.frame_line.put_line.Tie as tie
 
--- src/frame_line.rt:52:9
+-- src/frame_line.rt:48:9
 name-bytes-requires : tie.Need-name-bytes-requires
 name-bytes-requires c κs = search needs
 
--- src/frame_line.rt:54:9
+-- src/frame_line.rt:50:9
 returns : tie.Need-returns
 returns c =
     let start = c .before .before .before .before in
@@ -22,27 +22,27 @@ returns c =
     let size = length-frame (args .s .now) (args .rec) (args .i) (args .code) in
     (no-room (frame (args .s .now) (args .rec) (args .code) (args .i)) (length (args .out .now)) (omega (arith, size, ap length named)), refl)
 
--- src/frame_line.rt:59:18
+-- src/frame_line.rt:55:18
 field-size-requires : tie.Need-field-size-requires
 field-size-requires c κs = search needs
 
--- src/frame_line.rt:59:54
+-- src/frame_line.rt:55:54
 rows-size-requires : tie.Need-rows-size-requires
 rows-size-requires c κs = search needs
 
--- src/frame_line.rt:59:43
+-- src/frame_line.rt:55:43
 field-size-requires-2 : tie.Need-field-size-requires-2
 field-size-requires-2 c κs = search needs
 
--- src/frame_line.rt:59:18
+-- src/frame_line.rt:55:18
 add-fields : tie.Need-add-fields
 add-fields c = search needs
 
--- src/frame_line.rt:60:20
+-- src/frame_line.rt:56:20
 add-if2 : tie.Need-add-if2
 add-if2 c = search needs
 
--- src/frame_line.rt:61:9
+-- src/frame_line.rt:57:9
 returns-2 : tie.Need-returns-2
 returns-2 c =
     let start = c .before .before .before .before .before .before .before .before in
@@ -52,7 +52,7 @@ returns-2 c =
     let size = length-frame (args .s .now) (args .rec) (args .i) (args .code) in
     (no-room (frame (args .s .now) (args .rec) (args .code) (args .i)) (length (args .out .now)) (omega (arith, size, ap length named)), refl)
 
--- src/frame_line.rt:66:20
+-- src/frame_line.rt:62:20
 put-fields-requires : tie.Need-put-fields-requires
 put-fields-requires c κs =
     let start = c .before .before .before .before .before .before .before .before .before in
@@ -62,11 +62,11 @@ put-fields-requires c κs =
     let size = length-frame (args .s .now) (args .rec) (args .i) (args .code) in
     (named, omega (arith, size, ap length named))
 
--- src/frame_line.rt:47:1
+-- src/frame_line.rt:43:1
 same-length : tie.Need-same-length
 same-length c = search needs
 
--- src/frame_line.rt:47:1
+-- src/frame_line.rt:43:1
 returns-3 : tie.Need-returns-3
 returns-3 c =
     let start = c .before .before .before .before .before .before .before .before .before .before .before .before in

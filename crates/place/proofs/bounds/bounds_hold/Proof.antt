@@ -5,23 +5,23 @@ use borrow.Author.Needs.{needs}
 use Rattle.place.proofs.bounds.bounds_hold.Statement.{statement}
 use Rattle.place.proofs.bounds.bounds_hold.Tie as tie
 
--- src/bounds.rt:42:5
+-- src/bounds.rt:44:5
 is-natural-requires : tie.Need-is-natural-requires
 is-natural-requires c κs = search needs
 
--- src/bounds.rt:42:28
+-- src/bounds.rt:44:28
 is-natural-requires-2 : tie.Need-is-natural-requires-2
 is-natural-requires-2 c κs = search needs
 
--- src/bounds.rt:42:59
+-- src/bounds.rt:44:59
 height-of-requires : tie.Need-height-of-requires
 height-of-requires c κs = search needs
 
--- src/bounds.rt:42:50
+-- src/bounds.rt:44:50
 in-range-requires : tie.Need-in-range-requires
 in-range-requires c κs = search needs
 
--- src/bounds.rt:39:1
+-- src/bounds.rt:41:1
 returns : tie.Need-returns
 unfolding boundsHold
 returns c =

@@ -6,11 +6,11 @@ use borrow.Author.Needs.{needs}
 use Rattle.place.proofs.bounds.natural_i32.Statement.{statement}
 use Rattle.place.proofs.bounds.natural_i32.Tie as tie
 
--- src/bounds.rt:56:5
+-- src/bounds.rt:58:5
 cast-result : tie.Need-cast-result
 cast-result c = rw (toZ-ofZ {w = w32} {z = c .args .z} (c .fits .z)) (in-range-small (c .args .z) (c .pre) .0, omega (arith, in-range-small (c .args .z) (c .pre) .1))
 
--- src/bounds.rt:52:1
+-- src/bounds.rt:54:1
 returns : tie.Need-returns
 returns c = search needs
 
