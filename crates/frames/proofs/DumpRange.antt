@@ -1,19 +1,14 @@
 -- The whole dump asks only the codes of the table's range, in vetting and in printing: so it can be computed for a font at hand.
 use mathlib.Core.Path.{_≡_, refl}
-use mathlib.Core.Bool.{cond}
 use mathlib.Core.List.{List}
 use Prim.Native.Nat.{ℕ, _-_}
-use Rattle.reads.specs.Said.{refusal}
 use Rattle.tables.specs.declared.Record.{Record}
 use Rattle.load.specs.Load.{loaded}
 use Rattle.load.specs.declared.Loaded.{Loaded}
 use Rattle.lookup.specs.CodeRange.{codeRange}
-use Rattle.bitmaps.specs.Picture.{unreadable}
-use Rattle.place.specs.Bounds.{boundsHold, boundsOf}
 use Rattle.hexline.specs.Lines.{hexRead, hexBytes}
 use Rattle.hexline.specs.declared.HexRead.{HexRead}
-use Rattle.vet.specs.First.{firstFault}
-use Rattle.vet.specs.Vet.{propFault, codeFault, afterFirst, vetRecord, vetLoaded, vetted}
+use Rattle.vet.specs.Vet.{vetCodes, vetRecord, vetLoaded, vetted}
 use Rattle.vet.specs.declared.Vetted.{Vetted}
 use Rattle.vet.proofs.CodesInRange.{codes-in-range}
 use Rattle.frames.specs.Frames.{framesFrom}
@@ -29,12 +24,7 @@ codes rec = codeRange (rec .codes) .end - codeRange (rec .codes) .low
 
 -- vetting, printing and the whole dump, of the range
 abbrev pub vetInRange : List ℕ → Record → Vetted
-vetInRange s rec =
-    cond (unreadable (rec .bitmaps)) (Vetted.Refused (refusal 13 0))
-    (cond (boundsHold (boundsOf rec))
-    (afterFirst (firstFault (propFault s rec) (rec .props .count) 0)
-    (afterFirst (firstFault (codeFault s rec) (codes rec) (low rec)) (Vetted.Passed rec)))
-    (Vetted.Refused (refusal 11 0)))
+vetInRange s rec = vetCodes s rec (codes rec) (low rec)
 
 abbrev pub printInRange : List ℕ → Vetted → List ℕ
 printInRange s (Vetted.Passed rec) = framesFrom s rec (codes rec) (low rec)

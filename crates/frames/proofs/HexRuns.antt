@@ -6,11 +6,7 @@ use native.Mathlib.Numerals.{add-one}
 use native.Mathlib.Omega.{arith}
 use lib.ListN.{length, take, getD}
 use lib.Seq.{take-suc}
-use Rattle.frames.specs.Hex.{hexByte, hexFour, hexAll, field}
-
--- "four hexadecimal digits"
-pub length-four : (n : ℕ) → length (hexFour n) ≡ 4
-length-four n = refl
+use Rattle.frames.specs.Hex.{hexByte, hexAll, field}
 
 pub length-hex : (s : List ℕ) → length (hexAll s) ≡ 2 * length s
 unfolding hexAll

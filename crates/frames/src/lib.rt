@@ -24,7 +24,9 @@ pub enum Printed {
 }
 
 // Writes the frame of a code at the start of `out`, its newline included, and answers how many bytes
-// it has. A code without a glyph, or whose glyph `place::info_of` refuses, has no frame: 0 bytes.
+// it has. A code without a glyph, or whose glyph `place::info_of` refuses, has no frame: 0 bytes. In a
+// font that did not pass vetting, a name that is refused shows as "-" and a row byte past the data as
+// 00.
 // Refused, both with place 0 and `out` as it was: 6 for a record that fails its test with these bytes
 // (`tables::record_fits`), 15 where `out` is shorter than the line.
 pub fn put_frame(bytes: &[u8], rec: Record, code: CharCode, out: &mut [u8]) -> Printed
@@ -48,8 +50,8 @@ pub fn put_frame(bytes: &[u8], rec: Record, code: CharCode, out: &mut [u8]) -> P
     }
 }
 
-// Writes the line `refused NN`, 11 bytes with its newline, at the start of `out`; 15, with place 0 and
-// `out` as it was, where `out` is shorter.
+// Writes the line `refused NN` of a refusal's number, which has at most two digits: 11 bytes with its
+// newline, at the start of `out`. 15, with place 0 and `out` as it was, where `out` is shorter.
 pub fn put_refused(number: u8, out: &mut [u8]) -> Printed
     ensures { λ r. ⌜ r ≡ refusedInto number (length (now (out .entry))) ⌝ }
     ensures { λ r. ⌜ now (out .exit) ≡ refusedLeaves number r (now (out .entry)) ⌝ }

@@ -29,7 +29,7 @@ stringAt s strings size from =
     (cond (ltb size from) (Named.Refused (refusal 18 0)) (spanTo (strings + from) (zeroFrom s (strings + from) (size - from) 0)))
     (Named.Refused (refusal 6 0))
 
--- a string that ends: its offset lies in the string data, and a zero byte stands there "at or after it"
+-- a string that ends, in string data that lies in the bytes: a zero byte of that data stands "at or after" its offset
 abbrev pub EndsIn : List ℕ → ℕ → ℕ → ℕ → Type 0
 EndsIn s strings size from = (k : ℕ) × (from ≤ k) × (k < size) × (byteAt s (strings + k) ≡ 0)
 

@@ -3,3 +3,4 @@ mod DumpF
 mod Unique
 mod RecordTest
 mod Vetting
+mod VettingRefuses

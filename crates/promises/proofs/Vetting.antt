@@ -1,9 +1,9 @@
--- Vetting passes a font exactly when document 01's conditions hold, and otherwise tells the first failure and its place.
+-- Vetting passes a font exactly when document 01's conditions hold.
 use mathlib.Core.Path.{_≡_, refl, sym, subst, _∙_}
-use mathlib.Core.Bool.{true, false, _&&_}
+use mathlib.Core.Bool.{Bool, true, false, _&&_}
 use mathlib.Core.List.{List}
 use mathlib.Core.Logic.{_↔_}
-use Prim.Native.Nat.{ℕ, _+_, _*_, _/_, _≤_, _<_}
+use Prim.Native.Nat.{ℕ, _+_, _*_, _/_, _<_}
 use native.Mathlib.Omega.{arith}
 use lib.ListN.{length}
 use lib.Dec.{T, leb, eqb}
@@ -13,15 +13,12 @@ use borrow.Author.Tests.{lt-leb, leb-true, leb-false, eqb-true, eq-eqb}
 use Rattle.reads.specs.Num.{u32At}
 use Rattle.reads.specs.Said.{refusal}
 use Rattle.reads.specs.declared.GlyphIndex.{GlyphIndex}
-use Rattle.reads.specs.declared.Refusal.{Refusal}
 use Rattle.reads.proofs.Tests.{never, split, both}
 use Rattle.tables.specs.Fits.{recordFits}
 use Rattle.tables.specs.declared.BitmapData.{BitmapData}
 use Rattle.tables.specs.declared.MetricsUnpacked.{MetricsUnpacked}
 use Rattle.tables.specs.declared.Record.{Record}
 use Rattle.tables.proofs.RecordParts.{prop-strings, name-strings, bitmap-bytes}
-use Rattle.load.specs.Load.{loaded}
-use Rattle.load.specs.declared.Loaded.{Loaded}
 use Rattle.load.proofs.Serves.{loaded-serves}
 use Rattle.lookup.specs.Lookup.{glyphOf}
 use Rattle.lookup.specs.declared.Found.{Found}
@@ -30,7 +27,7 @@ use Rattle.names.specs.declared.Named.{Named}
 use Rattle.names.specs.declared.Span.{Span}
 use Rattle.metrics.specs.Measure.{metricsAt}
 use Rattle.names.proofs.EndsAtZero.{found-ends, ends-found}
-use Rattle.bitmaps.specs.Picture.{unreadable, bitsOf, rowOf}
+use Rattle.bitmaps.specs.Picture.{unreadable, bitsOf, rowOf, rowsShort}
 use Rattle.bitmaps.proofs.DataBytes.{data-length}
 use Rattle.bitmaps.proofs.RowsInside.{rows-inside, inside-rows}
 use Rattle.place.specs.Bounds.{heightOf, inRange, boundsHold, boundsOf}
@@ -42,9 +39,8 @@ use Rattle.vet.specs.declared.Vetted.{Vetted}
 use Rattle.vet.proofs.CodesInRange.{no-glyph-no-fault}
 use Rattle.vet.proofs.PassedCodes.{Usable, usable-code, code-usable, passed-usable}
 use Rattle.vet.proofs.PassedProps.{Readable, readable-prop, prop-readable}
-use Rattle.vet.proofs.Verdict.{passes-when, refused-when, refused-load}
-use Rattle.vet.specs.Verdict.{Fails}
-use Rattle.promises.specs.Passing.{HasGlyph, BoundsGood, MetricsGood, PropertyGood, NameGood, GlyphGood, Passes}
+use Rattle.vet.proofs.Verdict.{passes-when}
+use Rattle.promises.specs.Passing.{HasGlyph, OrderGood, BoundsGood, MetricsGood, PropertyGood, RowsGood, NameEnds, GlyphGood, Passes}
 
 -- a test that holds, as an order, and back
 holds : (a b : ℤ) → leZ a b ≡ true → a ≤ℤ b
@@ -66,17 +62,17 @@ ranged-told : (z : ℤ) → pos 0 ≤ℤ z → z ≤ℤ pos 32767 → inRange z 
 ranged-told z a b = rw (natural-told z a, told z (pos 32767) b) refl
 
 -- 13
-unit-good : (b : BitmapData) → unreadable b ≡ false → (b .unit ≡ 0) × (b .top ≡ true)
-unit-good b e =
+pub order-good : (b : BitmapData) → unreadable b ≡ false → OrderGood b
+order-good b e =
     split (eqb (b .unit) 0)
-    (λ t. split (b .top) (λ u. (eqb-true (b .unit) 0 t, u)) (λ u. never (sym (rw (t, u) at e))))
+    (λ t. split (b .top) (λ u. record { unit = eqb-true (b .unit) 0 t; top = u }) (λ u. never (sym (rw (t, u) at e))))
     (λ t. never (sym (rw t at e)))
 
-good-unit : (b : BitmapData) → b .unit ≡ 0 → b .top ≡ true → unreadable b ≡ false
-good-unit b e t = rw (eq-eqb (b .unit) 0 e, t) refl
+pub good-order : (b : BitmapData) → OrderGood b → unreadable b ≡ false
+good-order b w = rw (eq-eqb (b .unit) 0 (w .unit), w .top) refl
 
 -- 11, of the bounds
-bounds-good : (m : MetricsUnpacked) → boundsHold m ≡ true → BoundsGood m
+pub bounds-good : (m : MetricsUnpacked) → boundsHold m ≡ true → BoundsGood m
 unfolding boundsHold
 bounds-good m e =
     let (up-to-width, sum) = both (nonNeg (m .ascent) && nonNeg (m .width)) (inRange (heightOf m)) e in
@@ -84,13 +80,13 @@ bounds-good m e =
     let (least, most) = ranged (heightOf m) sum in
     record { ascent = natural (m .ascent) ascent; width = natural (m .width) width; least = least; most = most }
 
-good-bounds : (m : MetricsUnpacked) → BoundsGood m → boundsHold m ≡ true
+pub good-bounds : (m : MetricsUnpacked) → BoundsGood m → boundsHold m ≡ true
 unfolding boundsHold
 good-bounds m w =
     rw (natural-told (m .ascent) (w .ascent), natural-told (m .width) (w .width), ranged-told (heightOf m) (w .least) (w .most)) refl
 
 -- 11, of a glyph
-metrics-good : (m : MetricsUnpacked) (top : ℤ) → placeable m top ≡ true → MetricsGood m top
+pub metrics-good : (m : MetricsUnpacked) (top : ℤ) → placeable m top ≡ true → MetricsGood m top
 metrics-good m top e =
     let p = placed m top e in
     let (least, most) = ranged (heightOf m) (p .height) in
@@ -103,7 +99,7 @@ metrics-good m top e =
       below = holds (m .ascent) top (p .below);
     }
 
-good-metrics : (m : MetricsUnpacked) (top : ℤ) → MetricsGood m top → placeable m top ≡ true
+pub good-metrics : (m : MetricsUnpacked) (top : ℤ) → MetricsGood m top → placeable m top ≡ true
 unfolding placeable
 good-metrics m top w =
     rw (
@@ -121,8 +117,26 @@ module _ (s : List ℕ) (rec : Record) (fits : recordFits (length s) rec ≡ tru
       let b = rec .bitmaps in
       omega (arith, data-length s b, leb-true (b .bits + b .size) (length s) (bitmap-bytes (length s) rec fits))
 
+  -- 14
+  module _ (g : ℕ) where
+    abbrev measures : MetricsUnpacked
+    measures = metricsAt s (rec .metrics) g
+
+    abbrev short : Bool
+    short = rowsShort s (rec .bitmaps) g (natAbs (measures .width)) (natAbs (heightOf measures))
+
+    pub rows-good : short ≡ false → RowsGood s rec g
+    rows-good e r c h l =
+        subst (λ size. rowOf s (rec .bitmaps) g (natAbs (measures .width)) r + c / 8 < size) data-size
+        (rows-inside s (rec .bitmaps) g (natAbs (measures .width)) (natAbs (heightOf measures)) e r c h l)
+
+    pub good-rows : RowsGood s rec g → short ≡ false
+    good-rows w =
+        inside-rows s (rec .bitmaps) g (natAbs (measures .width)) (natAbs (heightOf measures)) (λ r c h l.
+        subst (λ size. rowOf s (rec .bitmaps) g (natAbs (measures .width)) r + c / 8 < size) (sym data-size) (w r c h l))
+
   -- 18, of a property
-  property-good : (i : ℕ) → Readable s (rec .props) i → PropertyGood s (rec .props) i
+  pub property-good : (i : ℕ) → Readable s (rec .props) i → PropertyGood s (rec .props) i
   property-good i r =
       let p = rec .props in
       record {
@@ -130,7 +144,7 @@ module _ (s : List ℕ) (rec : Record) (fits : recordFits (length s) rec ≡ tru
         value = λ z. let (text, e) = r .has-value z in found-ends s (p .strings) (p .size) (u32At (p .big) s (p .records + 9 * i + 5)) text e;
       }
 
-  good-property : (i : ℕ) → PropertyGood s (rec .props) i → Readable s (rec .props) i
+  pub good-property : (i : ℕ) → PropertyGood s (rec .props) i → Readable s (rec .props) i
   good-property i w =
       let p = rec .props in
       let room = prop-strings (length s) rec fits in
@@ -145,52 +159,51 @@ module _ (s : List ℕ) (rec : Record) (fits : recordFits (length s) rec ≡ tru
   abbrev offset : ℕ → ℕ
   offset g = u32At (rec .names .big) s (rec .names .offsets + 4 * g)
 
-  name-good : (g : ℕ) (p : Span) → nameOf s (rec .names) g ≡ Named.Name p → NameGood s (rec .names) g
+  name-good : (g : ℕ) (p : Span) → nameOf s (rec .names) g ≡ Named.Name p → (g < rec .names .count) × NameEnds s (rec .names) g
   unfolding nameOf
   name-good g p e =
       let n = rec .names in
       split (leb (n .count) g) (λ t. absurd (let z : Named.Refused (refusal 17 0) ≡ Named.Name p = rw t at e in let q : _≡_ {A = ℕ} 0 1 = cc in omega arith))
-      (λ t. record { counted = leb-false (n .count) g t; ends = found-ends s (n .strings) (n .size) (offset g) p (rw t at e) })
+      (λ t. (leb-false (n .count) g t, found-ends s (n .strings) (n .size) (offset g) p (rw t at e)))
 
-  good-name : (g : ℕ) → NameGood s (rec .names) g → (p : Span) × (nameOf s (rec .names) g ≡ Named.Name p)
+  good-name : (g : ℕ) → g < rec .names .count → NameEnds s (rec .names) g → (p : Span) × (nameOf s (rec .names) g ≡ Named.Name p)
   unfolding nameOf
-  good-name g w =
+  good-name g h w =
       let n = rec .names in
-      let (p, e) = ends-found s (n .strings) (n .size) (offset g) (name-strings (length s) rec fits) (w .ends) in
-      (p, rw (lt-leb (n .count) g (w .counted)) e)
+      let (p, e) = ends-found s (n .strings) (n .size) (offset g) (name-strings (length s) rec fits) w in
+      (p, rw (lt-leb (n .count) g h) e)
 
   -- 10, 11, 12, 14, and those
   module _ (g : GlyphIndex) where
     abbrev m : MetricsUnpacked
     m = metricsAt s (rec .metrics) (g .0)
 
-    glyph-good : Usable s rec g → GlyphGood s rec (g .0)
+    pub glyph-good : Usable s rec g → GlyphGood s rec (g .0)
     glyph-good u =
+        let (counted, ends) = name-good (g .0) (u .name) (u .is-named) in
         record {
           measured = leb-false (rec .metrics .count) (g .0) (u .is-measured);
           metrics = metrics-good m (boundsOf rec .ascent) (u .in-range);
           pictured = leb-false (rec .bitmaps .count) (g .0) (u .has-bitmap);
-          rows = λ r c h l.
-              subst (λ size. rowOf s (rec .bitmaps) (g .0) (natAbs (m .width)) r + c / 8 < size) data-size
-              (rows-inside s (rec .bitmaps) (g .0) (natAbs (m .width)) (natAbs (heightOf m)) (u .has-rows) r c h l);
-          named = name-good (g .0) (u .name) (u .is-named);
+          rows = rows-good (g .0) (u .has-rows);
+          counted = counted;
+          ends = ends;
         }
 
-    good-glyph : GlyphGood s rec (g .0) → Usable s rec g
+    pub good-glyph : GlyphGood s rec (g .0) → Usable s rec g
     good-glyph w =
-        let (name, is-named) = good-name (g .0) (w .named) in
+        let (name, is-named) = good-name (g .0) (w .counted) (w .ends) in
         record {
           is-measured = lt-leb (rec .metrics .count) (g .0) (w .measured);
           in-range = good-metrics m (boundsOf rec .ascent) (w .metrics);
           has-bitmap = lt-leb (rec .bitmaps .count) (g .0) (w .pictured);
-          has-rows = inside-rows s (rec .bitmaps) (g .0) (natAbs (m .width)) (natAbs (heightOf m)) (λ r c h l.
-              subst (λ size. rowOf s (rec .bitmaps) (g .0) (natAbs (m .width)) r + c / 8 < size) (sym data-size) (w .rows r c h l));
+          has-rows = good-rows (g .0) (w .rows);
           name = name;
           is-named = is-named;
         }
 
   -- a code is without fault if its glyph is good, or if it has none
-  good-code : (code : ℕ) → ((g : ℕ) → HasGlyph s rec code g → GlyphGood s rec g) → codeFault s rec code ≡ 0
+  pub good-code : (code : ℕ) → ((g : ℕ) → HasGlyph s rec code g → GlyphGood s rec g) → codeFault s rec code ≡ 0
   good-code code w = by (glyphOf s (rec .codes) code) refl where
     by : (x : Found) → glyphOf s (rec .codes) code ≡ x → codeFault s rec code ≡ 0
     by (Found.Glyph g) e = usable-code s rec code g e (good-glyph g (w (g .0) e))
@@ -203,11 +216,9 @@ vet-passes s rec = (to, from) where
   to e =
       let (l, w) = passes-when s rec .0 e in
       let fits = loaded-serves s rec l in
-      let (unit, top) = unit-good (rec .bitmaps) (w .readable) in
       record {
         loads = l;
-        unit = unit;
-        top = top;
+        order = order-good (rec .bitmaps) (w .readable);
         bounds = bounds-good (boundsOf rec) (w .bounds);
         properties = λ i h. property-good s rec fits i (prop-readable s rec i h (w .properties i (omega arith) h));
         codes = λ code g h e. glyph-good s rec fits (record { 0 = g }) (code-usable s rec code (record { 0 = g }) e (w .codes code (omega arith) h));
@@ -219,21 +230,12 @@ vet-passes s rec = (to, from) where
       passes-when s rec .1 (
         w .loads,
         record {
-          readable = good-unit (rec .bitmaps) (w .unit) (w .top);
+          readable = good-order (rec .bitmaps) (w .order);
           bounds = good-bounds (boundsOf rec) (w .bounds);
           properties = λ i l h. readable-prop s rec i h (good-property s rec fits i (w .properties i h));
           codes = λ code l h. good-code s rec fits code (λ g e. w .codes code g h e);
         },
       )
-
--- a font that loads is refused if and only if a condition fails, and then for the first that does
-pub vet-refuses : (s : List ℕ) (rec : Record) → loaded s ≡ Loaded.Font rec
-    → (n place : ℕ) → (vetted s ≡ Vetted.Refused (refusal n place)) ↔ Fails s rec n place
-vet-refuses = refused-when
-
--- a font that does not load is refused as loading refuses it
-pub vet-load-refuses : (s : List ℕ) (r : Refusal) → loaded s ≡ Loaded.Refused r → vetted s ≡ Vetted.Refused r
-vet-load-refuses = refused-load
 
 -- "A passed font": each of its codes, of whatever size, has a good glyph or none
 pub passed-glyph : (s : List ℕ) (rec : Record) → vetted s ≡ Vetted.Passed rec → (code g : ℕ) → HasGlyph s rec code g → GlyphGood s rec g

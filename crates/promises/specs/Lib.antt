@@ -5,3 +5,4 @@ pub mod Cases
 pub mod Unique
 pub mod SixExactly
 pub mod Passing
+pub mod Refusing

@@ -1,13 +1,14 @@
 -- When a font passes vetting, in plain logic. From document 01, "Vetting": "Passes when loading does and, in this order: no 13; the
 -- bounds hold (11); every property's strings end (18); then for each code 0 to 65,535 that has a glyph: 10, 11, 12, 14 over all rows,
 -- 17, 18 don't occur."
-use Prim.Native.Nat.{ℕ, _+_, _*_, _/_, _≤_, _<_}
+use Prim.Native.Nat.{ℕ, _+_, _*_, _/_, _<_}
 use mathlib.Core.Path.{_≡_}
 use mathlib.Core.Bool.{true}
 use mathlib.Core.List.{List}
 use lib.IntN.{ℤ, pos, natAbs}
 use lib.Signed.{_≤ℤ_}
 use Rattle.reads.specs.Num.{byteAt, u32At}
+use Rattle.tables.specs.declared.BitmapData.{BitmapData}
 use Rattle.tables.specs.declared.GlyphNameData.{GlyphNameData}
 use Rattle.tables.specs.declared.MetricsUnpacked.{MetricsUnpacked}
 use Rattle.tables.specs.declared.PropertiesData.{PropertiesData}
@@ -47,30 +48,34 @@ pub record PropertyGood (s : List ℕ) (p : PropertiesData) (i : ℕ) : Type 0 w
   pub name : EndsIn s (p .strings) (p .size) (u32At (p .big) s (p .records + 9 * i))
   pub value : (byteAt s (p .records + 9 * i + 4) ≡ 0 → ⊥) → EndsIn s (p .strings) (p .size) (u32At (p .big) s (p .records + 9 * i + 5))
 
--- a glyph's name, not 17 and not 18
-pub record NameGood (s : List ℕ) (n : GlyphNameData) (g : ℕ) : Type 0 where
-  pub counted : g < n .count
-  pub ends : EndsIn s (n .strings) (n .size) (u32At (n .big) s (n .offsets + 4 * g))
+-- every column of every row of a glyph has its byte in the bitmap data
+abbrev pub RowsGood : List ℕ → Record → ℕ → Type 0
+RowsGood s rec g =
+    (r c : ℕ) → r < natAbs (heightOf (metricsAt s (rec .metrics) g)) → c < natAbs (metricsAt s (rec .metrics) g .width)
+    → rowOf s (rec .bitmaps) g (natAbs (metricsAt s (rec .metrics) g .width)) r + c / 8 < rec .bitmaps .size
 
--- a glyph that no code can come to grief with
+-- a glyph's name ends
+abbrev pub NameEnds : List ℕ → GlyphNameData → ℕ → Type 0
+NameEnds s n g = EndsIn s (n .strings) (n .size) (u32At (n .big) s (n .offsets + 4 * g))
+
+-- of a glyph: none of 10, 11, 12, 14 over all rows, 17, 18
 pub record GlyphGood (s : List ℕ) (rec : Record) (g : ℕ) : Type 0 where
-  -- not 10
   pub measured : g < rec .metrics .count
-  -- not 11
   pub metrics : MetricsGood (metricsAt s (rec .metrics) g) (boundsOf rec .ascent)
-  -- not 12
   pub pictured : g < rec .bitmaps .count
-  -- not 14: every column of every row has its byte in the bitmap data
-  pub rows : (r c : ℕ) → r < natAbs (heightOf (metricsAt s (rec .metrics) g)) → c < natAbs (metricsAt s (rec .metrics) g .width)
-      → rowOf s (rec .bitmaps) g (natAbs (metricsAt s (rec .metrics) g .width)) r + c / 8 < rec .bitmaps .size
-  -- not 17, not 18
-  pub named : NameGood s (rec .names) g
+  pub rows : RowsGood s rec g
+  pub counted : g < rec .names .count
+  pub ends : NameEnds s (rec .names) g
 
+-- not 13: one-byte scan units, the top bit leftmost
+pub record OrderGood (b : BitmapData) : Type 0 where
+  pub unit : b .unit ≡ 0
+  pub top : b .top ≡ true
+
+-- a font that passes, and its record: "such bytes with the record that loading gave for them"
 pub record Passes (s : List ℕ) (rec : Record) : Type 0 where
   pub loads : loaded s ≡ Loaded.Font rec
-  -- not 13: one-byte scan units, the top bit leftmost
-  pub unit : rec .bitmaps .unit ≡ 0
-  pub top : rec .bitmaps .top ≡ true
+  pub order : OrderGood (rec .bitmaps)
   pub bounds : BoundsGood (boundsOf rec)
   pub properties : (i : ℕ) → i < rec .props .count → PropertyGood s (rec .props) i
   pub codes : (code g : ℕ) → code < 65536 → HasGlyph s rec code g → GlyphGood s rec g

@@ -7,8 +7,20 @@ use native.Mathlib.Omega.{arith}
 use lib.Dec.{ltb}
 use borrow.Author.Tests.{ltb-true, ltb-false}
 use Rattle.reads.proofs.Tests.{split}
-use Rattle.vet.specs.First.{orFirst, firstFault, Faultless, IsFirst}
+use Rattle.vet.specs.First.{orFirst, firstFault}
 use Rattle.vet.specs.declared.First.{First}
+
+-- no number from k up to, but not with, `end` has a fault
+abbrev pub Faultless : (ℕ → ℕ) → ℕ → ℕ → Type 0
+Faultless f k end = (j : ℕ) → k ≤ j → j < end → f j ≡ 0
+
+-- number i is the first from k on with a fault, and m is that fault
+pub record IsFirst (f : ℕ → ℕ) (k end m i : ℕ) : Type 0 where
+  pub from : k ≤ i
+  pub below : i < end
+  pub fault : f i ≡ m
+  pub is-one : m ≡ 0 → ⊥
+  pub earlier : Faultless f k i
 
 or-none : (m k : ℕ) (rest : First) → m ≡ 0 → orFirst m k rest ≡ rest
 or-none m k rest e = rw e refl

@@ -14,12 +14,28 @@ use Rattle.load.specs.Load.{loaded}
 use Rattle.load.specs.declared.Loaded.{Loaded}
 use Rattle.bitmaps.specs.Picture.{unreadable}
 use Rattle.place.specs.Bounds.{boundsHold, boundsOf}
-use Rattle.vet.specs.First.{firstFault, Faultless, IsFirst}
-use Rattle.vet.specs.Verdict.{Sound, Fails}
+use Rattle.vet.specs.First.{firstFault}
 use Rattle.vet.specs.Vet.{propFault, codeFault, afterFirst, vetRecord, vetLoaded, vetted}
 use Rattle.vet.specs.declared.First.{First}
 use Rattle.vet.specs.declared.Vetted.{Vetted}
-use Rattle.vet.proofs.FirstFault.{none-clear, clear-none, at-first, first-at}
+use Rattle.vet.proofs.FirstFault.{Faultless, IsFirst, none-clear, clear-none, at-first, first-at}
+
+-- the tests of a record that pass
+pub record Sound (s : List ℕ) (rec : Record) : Type 0 where
+  pub readable : unreadable (rec .bitmaps) ≡ false
+  pub bounds : boundsHold (boundsOf rec) ≡ true
+  pub properties : Faultless (propFault s rec) 0 (rec .props .count)
+  pub codes : Faultless (codeFault s rec) 0 65536
+
+-- the first test of a record that fails: "Otherwise the first failure and its place"
+abbrev pub Fails : List ℕ → Record → ℕ → ℕ → Type 0
+Fails s rec n place =
+    ((unreadable (rec .bitmaps) ≡ true) × (n ≡ 13) × (place ≡ 0))
+    ⊎ ((unreadable (rec .bitmaps) ≡ false) × (boundsHold (boundsOf rec) ≡ false) × (n ≡ 11) × (place ≡ 0))
+    ⊎ ((unreadable (rec .bitmaps) ≡ false) × (boundsHold (boundsOf rec) ≡ true)
+    × IsFirst (propFault s rec) 0 (rec .props .count) n place)
+    ⊎ ((unreadable (rec .bitmaps) ≡ false) × (boundsHold (boundsOf rec) ≡ true)
+    × Faultless (propFault s rec) 0 (rec .props .count) × IsFirst (codeFault s rec) 0 65536 n place)
 
 -- a pass, or a failure with its number and place
 abbrev Holds : List ℕ → Record → Vetted → Type 0

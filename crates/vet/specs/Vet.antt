@@ -61,15 +61,19 @@ abbrev pub afterFirst : First → Vetted → Vetted
 afterFirst First.Clear rest = rest
 afterFirst (First.At n k) rest = Vetted.Refused (refusal n k)
 
--- the conditions on a record that loading gave, in order
-unfoldable pub vetRecord : List ℕ → Record → Vetted
-vetRecord s rec =
+-- the conditions on a record, in order, with those on n codes from `code` on
+abbrev pub vetCodes : List ℕ → Record → ℕ → ℕ → Vetted
+vetCodes s rec n code =
     cond (unreadable (rec .bitmaps)) (Vetted.Refused (refusal 13 0))
     (cond (boundsHold (boundsOf rec))
     (afterFirst (firstFault (propFault s rec) (rec .props .count) 0)
-    (afterFirst (firstFault (codeFault s rec) 65536 0)
+    (afterFirst (firstFault (codeFault s rec) n code)
     (Vetted.Passed rec)))
     (Vetted.Refused (refusal 11 0)))
+
+-- the conditions on a record that loading gave: "for each code 0 to 65,535"
+unfoldable pub vetRecord : List ℕ → Record → Vetted
+vetRecord s rec = vetCodes s rec 65536 0
 
 abbrev pub vetLoaded : List ℕ → Loaded → Vetted
 vetLoaded s (Loaded.Font rec) = vetRecord s rec

@@ -1,0 +1,65 @@
+-- Why vetting refuses a font that loads, in plain logic. From document 01, "Vetting": "Otherwise the first failure and its place";
+-- "in vetting, for a property the property's number, for a code the code [...] otherwise 0".
+use Prim.Native.Nat.{ℕ, _<_}
+use mathlib.Core.Path.{_≡_}
+use mathlib.Core.List.{List, [], _∷_}
+use mathlib.Core.Logic.{_⊎_}
+use Rattle.tables.specs.declared.Record.{Record}
+use Rattle.metrics.specs.Measure.{metricsAt}
+use Rattle.place.specs.Bounds.{boundsOf}
+use Rattle.promises.specs.Passing.{HasGlyph, OrderGood, BoundsGood, MetricsGood, PropertyGood, RowsGood, NameEnds, GlyphGood}
+
+-- a condition, and the number that refuses where it does not hold
+pub record Condition : Type 1 where
+  pub number : ℕ
+  pub holds : Type 0
+
+abbrev pub unless : ℕ → Type 0 → Condition
+unless n P = record { number = n; holds = P }
+
+-- n is the number of the first condition that does not hold
+abbrev pub FirstOf : List Condition → ℕ → Type 0
+FirstOf [] n = ⊥
+FirstOf (c ∷ cs) n = ((c .holds → ⊥) × (n ≡ c .number)) ⊎ (c .holds × FirstOf cs n)
+
+-- "10, 11, 12, 14 over all rows, 17, 18"
+abbrev pub glyphConditions : List ℕ → Record → ℕ → List Condition
+glyphConditions s rec g =
+    unless 10 (g < rec .metrics .count)
+    ∷ unless 11 (MetricsGood (metricsAt s (rec .metrics) g) (boundsOf rec .ascent))
+    ∷ unless 12 (g < rec .bitmaps .count)
+    ∷ unless 14 (RowsGood s rec g)
+    ∷ unless 17 (g < rec .names .count)
+    ∷ unless 18 (NameEnds s (rec .names) g)
+    ∷ []
+
+-- every property up to this one is good
+abbrev pub PropertiesGood : List ℕ → Record → ℕ → Type 0
+PropertiesGood s rec end = (i : ℕ) → i < end → PropertyGood s (rec .props) i
+
+-- every code up to this one has a good glyph or none
+abbrev pub CodesGood : List ℕ → Record → ℕ → Type 0
+CodesGood s rec end = (code g : ℕ) → code < end → HasGlyph s rec code g → GlyphGood s rec g
+
+-- the first property that is not good: 18
+pub record PropertyFails (s : List ℕ) (rec : Record) (n place : ℕ) : Type 0 where
+  pub number : n ≡ 18
+  pub counted : place < rec .props .count
+  pub bad : PropertyGood s (rec .props) place → ⊥
+  pub before : PropertiesGood s rec place
+
+-- the first code whose glyph is not good, and the first condition of that glyph that does not hold
+pub record CodeFails (s : List ℕ) (rec : Record) (n place : ℕ) : Type 0 where
+  pub coded : place < 65536
+  pub glyph : ℕ
+  pub found : HasGlyph s rec place glyph
+  pub in-order : FirstOf (glyphConditions s rec glyph) n
+  pub before : CodesGood s rec place
+
+-- "in this order: no 13; the bounds hold (11); every property's strings end (18); then for each code"
+abbrev pub Refuses : List ℕ → Record → ℕ → ℕ → Type 0
+Refuses s rec n place =
+    ((OrderGood (rec .bitmaps) → ⊥) × (n ≡ 13) × (place ≡ 0))
+    ⊎ (OrderGood (rec .bitmaps) × (BoundsGood (boundsOf rec) → ⊥) × (n ≡ 11) × (place ≡ 0))
+    ⊎ (OrderGood (rec .bitmaps) × BoundsGood (boundsOf rec) × PropertyFails s rec n place)
+    ⊎ (OrderGood (rec .bitmaps) × BoundsGood (boundsOf rec) × PropertiesGood s rec (rec .props .count) × CodeFails s rec n place)
