@@ -32,6 +32,9 @@ use Rattle.metrics.specs.Measure.{metricsOf, getMetrics, getAccelerators, saidM
 use Rattle.metrics.specs.declared.Measured.{Measured}
 use Rattle.place.specs.Bounds.{boundsOf, boundsHold, boundsSized, dimensions, saidSized}
 use Rattle.place.specs.declared.Sized.{Sized}
+use Rattle.frames.specs.Frames.{frameOf}
+use Rattle.frames.specs.Put.{lineInto, frameInto, saidPrinted}
+use Rattle.frames.specs.declared.Printed.{Printed}
 use Rattle.promises.specs.SixExactly.{Six, NotSix, Exactly}
 
 -- past the record's test, no answer is 6
@@ -86,6 +89,9 @@ dimensions-past : (m : MetricsUnpacked) → NotSix (saidSized (boundsSized m))
 unfolding boundsSized
 dimensions-past m = either (λ (r : Sized). NotSix (saidSized r)) (boundsHold m) (λ e. omega arith) (λ e. omega arith)
 
+line-past : (line : List ℕ) (room : ℕ) → NotSix (saidPrinted (lineInto line room))
+line-past line room = either (λ (r : Printed). NotSix (saidPrinted r)) (ltb room (length line)) (λ e. omega arith) (λ e. omega arith)
+
 -- each call, for whatever is asked
 module _ (s : List ℕ) (rec : Record) where
   by-test : (a : Said) → (recordFits (length s) rec ≡ true → NotSix a) → (recordFits (length s) rec ≡ false → Six a) → Exactly s rec a
@@ -110,6 +116,10 @@ module _ (s : List ℕ) (rec : Record) where
   pub accelerators-six : Exactly s rec (saidAccelerated (getAccelerators s rec))
   unfolding getAccelerators
   accelerators-six = by-test (saidAccelerated (getAccelerators s rec)) (λ t. rw t (λ e. omega arith)) (λ t. rw t refl)
+
+  pub frame-six : (code room : ℕ) → Exactly s rec (saidPrinted (frameInto s rec code room))
+  unfolding frameInto
+  frame-six code room = by-test (saidPrinted (frameInto s rec code room)) (λ t. rw t (line-past (frameOf s rec code) room)) (λ t. rw t refl)
 
   pub dimensions-six : Exactly s rec (saidSized (dimensions s rec))
   unfolding dimensions
