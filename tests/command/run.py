@@ -19,8 +19,9 @@ from dump import make  # noqa: E402
 tried = 0
 
 
-def run(*words, folder, script=SCRIPT, error=subprocess.PIPE):
-    return subprocess.run([script, *words], cwd=folder, stdin=subprocess.DEVNULL, stdout=subprocess.PIPE, stderr=error)
+def run(*words, folder, script=SCRIPT, output=subprocess.PIPE, error=subprocess.PIPE, **more):
+    return subprocess.run([script, *words], cwd=folder, stdin=subprocess.DEVNULL, stdout=output, stderr=error,
+                          env={**os.environ, **more})
 
 
 def expect(what, got, status, output, said):
@@ -114,6 +115,13 @@ def unusable(folder):
     expect("an empty file", empty, 1, b"refused 01\n", "under 8 bytes")
 
 
+def no_room(folder):
+    with open("/dev/full", "wb") as full:
+        expect("frames that cannot be written", run("dump", "f.pcf", folder=folder, output=full), 2, None, "standard output")
+        expect("help that cannot be written", run("help", folder=folder, output=full), 2, None, "standard output")
+    expect("no temporary folder", run("dump", "f.pcf", folder=folder, TMPDIR="none"), 2, b"", "temporary folder")
+
+
 def helped(folder):
     text = run("help", folder=folder).stdout
     if b"thalluskin dump FONT.pcf" not in text or b"thalluskin help" not in text:
@@ -124,9 +132,6 @@ def helped(folder):
 
 
 def main():
-    # the script builds a program that is missing; one of older sources is made anew here
-    if os.path.exists(os.path.join(ROOT, "target", "bin", "dump")):
-        subprocess.run(["rt", "check", "dump"], cwd=ROOT, stdout=subprocess.DEVNULL, check=True)
     with tempfile.TemporaryDirectory() as folder:
         # the first run may build the program, and says so
         first = run("dump", store(folder, "first.pcf", make.fonts.two_digits()), folder=folder, error=None)
@@ -135,6 +140,7 @@ def main():
         good(folder)
         made_fonts(folder)
         unusable(folder)
+        no_room(folder)
         helped(folder)
     print("command: %d cases, as the model and the script's help say" % tried)
 

@@ -258,6 +258,7 @@ def frames():
     yield "entry_65535", with_codes((0x30, 0x32), (0, 0), [0, NO_GLYPH, 1])
     yield "code_0", with_codes((0, 1), (0, 0), two)
     yield "code_65535", with_codes((0xFFFE, 0xFFFF), (0, 0), two)
+    yield "surrogate_codes", with_codes((0xD7FF, 0xD800), (0, 0), two)
     yield "one_glyph_for_two_codes", with_codes((0x30, 0x32), (0, 0), [1, 0, 1])
     yield "two_byte_codes", with_codes((0x30, 0x31), (0x20, 0x22), [0, NO_GLYPH, 1, 1, NO_GLYPH, 0])
     yield "two_byte_codes_big_endian", fonts.big_two_byte()

@@ -1,19 +1,21 @@
 -- What an answer of `hexRead` tells: of a number of bytes, that every line is good and how many bytes they have, so that a long text
 -- has no such answer; of a refusal, its number and that all lines before its place are good.
 use Prim.Native.Nat.{ℕ, suc, _+_, _-_, _*_, _/_, _%_, _≤_, _<_}
+use native.Mathlib.Nat.{add-zero}
 use native.Mathlib.Omega.{arith}
-use mathlib.Core.Path.{_≡_, refl, sym, ap, _∙_}
+use mathlib.Core.Path.{_≡_, refl, sym, ap, subst, _∙_}
 use mathlib.Core.Bool.{Bool, true, false, _&&_}
-use mathlib.Core.List.{List, [], _∷_}
-use lib.ListN.{length, take, length-append}
+use mathlib.Core.List.{List, [], _∷_, _++_}
+use mathlib.Core.Logic.{_⊎_, inl, inr}
+use lib.ListN.{length, take, drop, length-append}
 use lib.Seq.{length-take-le}
 use lib.Dec.{leb, eqb}
-use borrow.Author.Tests.{leb-true, eqb-true}
+use borrow.Author.Tests.{leb-true, leb-false, eqb-true}
 use Rattle.reads.specs.Range.{between}
 use Rattle.reads.specs.Said.{refusal}
 use Rattle.reads.specs.declared.Refusal.{Refusal}
 use Rattle.reads.proofs.Tests.{never, split, both}
-use Rattle.hexline.specs.Lines.{inFront, linesOf, allDigits, goodLine, badLine, bytesFrom, hexRead}
+use Rattle.hexline.specs.Lines.{inFront, linesOf, allDigits, goodLine, isEmpty, badLine, bytesFrom, hexRead}
 use Rattle.hexline.specs.Lines.{pairs, allPairs, hexBytes, saidHex}
 use Rattle.hexline.specs.declared.HexRead.{HexRead}
 
@@ -144,39 +146,60 @@ characters-most text n e =
 
 -- ---- a refusal
 
--- the refusal of lines from number k on
-pub record FirstBad (ls : List (List ℕ)) (k : ℕ) (q : Refusal) : Type 0 where
+-- what the first of these lines, with n bytes before it, is refused for: it is not good, or there are too many bytes with it, or it
+-- is the last and no newline ends it
+abbrev pub Trouble : List (List ℕ) → List ℕ → ℕ → Type 0
+Trouble [] rest n = isEmpty rest ≡ false
+Trouble (l ∷ ls) rest n = (goodLine l ≡ false) ⊎ (49152 < n + length l / 2)
+
+-- the refusal of lines from number k on, with n bytes before them: the lines before the place are good, and the one there is not
+pub record FirstBad (ls : List (List ℕ)) (rest : List ℕ) (k n : ℕ) (q : Refusal) : Type 0 where
   pub number : q .number ≡ 20
   pub from : k ≤ q .place
   pub before-good : AllGood (take (q .place - k) ls)
+  pub bad : Trouble (drop (q .place - k) ls) rest (n + length (allPairs (take (q .place - k) ls)))
 
 abbrev refusedWith : Refusal → HexRead → Refusal
 refusedWith q (HexRead.Bytes n) = q
 refusedWith q (HexRead.Refused r) = r
 
-bad-here : (ls : List (List ℕ)) (k : ℕ) (q : Refusal) → badLine k ≡ HexRead.Refused q → FirstBad ls k q
-bad-here ls k q e =
+bad-here : (ls : List (List ℕ)) (rest : List ℕ) (k n : ℕ) (q : Refusal)
+    → badLine k ≡ HexRead.Refused q → Trouble ls rest n → FirstBad ls rest k n q
+unfolding allPairs
+bad-here ls rest k n q e t =
     let same : refusal 20 k ≡ q = ap (refusedWith q) e in
     let at : k ≡ q .place = ap (λ (r : Refusal). r .place) same in
     let none : q .place - k ≡ 0 = omega (arith, at) in
-    record { number = sym (ap (λ (r : Refusal). r .number) same); from = omega (arith, at); before-good = rw none tt }
+    record {
+      number = sym (ap (λ (r : Refusal). r .number) same);
+      from = omega (arith, at);
+      before-good = rw none tt;
+      bad = rw (none, add-zero n) t;
+    }
 
 first-bad-line : (ls : List (List ℕ)) (rest : List ℕ) (k n : ℕ) (q : Refusal)
-    → bytesFrom ls rest k n ≡ HexRead.Refused q → FirstBad ls k q
-unfolding bytesFrom
+    → bytesFrom ls rest k n ≡ HexRead.Refused q → FirstBad ls rest k n q
+unfolding bytesFrom allPairs
 first-bad-line [] [] k n q e = never (sym (ap isBytes e))
-first-bad-line [] (c ∷ cs) k n q e = bad-here [] k q e
+first-bad-line [] (c ∷ cs) k n q e = bad-here [] (c ∷ cs) k n q e refl
 first-bad-line (l ∷ ls) rest k n q e =
     let more = n + length l / 2 in
     split (goodLine l)
     (λ t. split (leb more 49152)
     (λ u. let b = first-bad-line ls rest (k + 1) more q (rw (t, u) at e) in
     let one : q .place - k ≡ suc (q .place - (k + 1)) = omega (arith, b .from) in
-    record { number = b .number; from = omega (arith, b .from); before-good = rw one (good-line l t, b .before-good) })
-    (λ u. bad-here (l ∷ ls) k q (rw (t, u) at e)))
-    (λ t. bad-here (l ∷ ls) k q (rw t at e))
+    let before = allPairs (take (q .place - (k + 1)) ls) in
+    let bytes : more + length before ≡ n + length (pairs l ++ before) = omega (arith, length-append (pairs l) before, length-pairs l) in
+    record {
+      number = b .number;
+      from = omega (arith, b .from);
+      before-good = rw one (good-line l t, b .before-good);
+      bad = rw one (subst (Trouble (drop (q .place - (k + 1)) ls) rest) bytes (b .bad));
+    })
+    (λ u. bad-here (l ∷ ls) rest k n q (rw (t, u) at e) (inr (leb-false more 49152 u))))
+    (λ t. bad-here (l ∷ ls) rest k n q (rw t at e) (inl t))
 
-pub first-bad : (text : List ℕ) (q : Refusal) → hexRead text ≡ HexRead.Refused q → FirstBad (linesOf text .ended) 1 q
+pub first-bad : (text : List ℕ) (q : Refusal) → hexRead text ≡ HexRead.Refused q → FirstBad (linesOf text .ended) (linesOf text .rest) 1 0 q
 unfolding hexRead
 first-bad text q e = first-bad-line (linesOf text .ended) (linesOf text .rest) 1 0 q e
 
