@@ -42,7 +42,7 @@ use Rattle.vet.proofs.CodesInRange.{no-glyph-no-fault}
 use Rattle.vet.proofs.FirstFault.{Faultless, IsFirst}
 use Rattle.vet.proofs.PassedCodes.{code-usable}
 use Rattle.vet.proofs.PassedProps.{prop-readable, readable-prop}
-use Rattle.vet.proofs.Verdict.{Fails, refused-when, refused-load}
+use Rattle.vet.proofs.Verdict.{Fails, refused-when}
 use Rattle.promises.specs.Passing.{HasGlyph, PropertyGood, NameEnds, GlyphGood}
 use Rattle.promises.specs.Refusing.{Condition, FirstOf, glyphConditions, PropertiesGood, PropertyFails, CodeFails, Refuses}
 use Rattle.promises.proofs.Vetting.{
@@ -264,7 +264,3 @@ vet-refuses s rec l n place =
     let fits = loaded-serves s rec l in
     let (to, from) = refused-when s rec l n place in
     (λ e. refuses s rec fits n place (to e), λ w. from (fails s rec fits n place w))
-
--- a font that does not load is refused as loading refuses it
-pub load-refuses : (s : List ℕ) (r : Refusal) → loaded s ≡ Loaded.Refused r → vetted s ≡ Vetted.Refused r
-load-refuses = refused-load
