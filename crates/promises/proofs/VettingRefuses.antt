@@ -43,8 +43,8 @@ use Rattle.vet.proofs.FirstFault.{Faultless, IsFirst}
 use Rattle.vet.proofs.PassedCodes.{code-usable}
 use Rattle.vet.proofs.PassedProps.{prop-readable, readable-prop}
 use Rattle.vet.proofs.Verdict.{Fails, refused-when}
-use Rattle.promises.specs.Passing.{HasGlyph, PropertyGood, NameEnds, GlyphGood}
-use Rattle.promises.specs.Refusing.{Condition, FirstOf, glyphConditions, PropertiesGood, PropertyFails, CodeFails, Refuses}
+use Rattle.promises.specs.Passing.{HasGlyph, PropertyGood, PropertiesGood, NameEnds, GlyphGood}
+use Rattle.promises.specs.Refusing.{Condition, FirstOf, glyphConditions, PropertyFails, CodeFails, Refuses}
 use Rattle.promises.proofs.Vetting.{
   order-good,
   good-order,
@@ -242,7 +242,7 @@ module _ (s : List ℕ) (rec : Record) (fits : recordFits (length s) rec ≡ tru
       (⊎-elim (λ (r, h, e, f). inr (inl (order-good b r, λ w. never (sym h ∙ good-bounds bounds w), e, f)))
       (⊎-elim (λ (r, h, w). inr (inr (inl (order-good b r, bounds-good bounds h, property-fails n place w))))
       (λ (r, h, p, w).
-      let properties : PropertiesGood s rec (rec .props .count) = λ i l. good-property-of i l (p i (omega arith) l) in
+      let properties : PropertiesGood s (rec .props) (rec .props .count) = λ i l. good-property-of i l (p i (omega arith) l) in
       inr (inr (inr (order-good b r, bounds-good bounds h, properties, code-first n place w))))))
 
   fails : (n place : ℕ) → Refuses s rec n place → Fails s rec n place

@@ -48,6 +48,10 @@ pub record PropertyGood (s : List ℕ) (p : PropertiesData) (i : ℕ) : Type 0 w
   pub name : EndsIn s (p .strings) (p .size) (u32At (p .big) s (p .records + 9 * i))
   pub value : (byteAt s (p .records + 9 * i + 4) ≡ 0 → ⊥) → EndsIn s (p .strings) (p .size) (u32At (p .big) s (p .records + 9 * i + 5))
 
+-- so do those of every property below this number
+abbrev pub PropertiesGood : List ℕ → PropertiesData → ℕ → Type 0
+PropertiesGood s p end = (i : ℕ) → i < end → PropertyGood s p i
+
 -- every column of every row of a glyph has its byte in the bitmap data
 abbrev pub RowsGood : List ℕ → Record → ℕ → Type 0
 RowsGood s rec g =
@@ -67,6 +71,10 @@ pub record GlyphGood (s : List ℕ) (rec : Record) (g : ℕ) : Type 0 where
   pub counted : g < rec .names .count
   pub ends : NameEnds s (rec .names) g
 
+-- every code below this number has such a glyph, or none
+abbrev pub CodesGood : List ℕ → Record → ℕ → Type 0
+CodesGood s rec end = (code g : ℕ) → code < end → HasGlyph s rec code g → GlyphGood s rec g
+
 -- not 13: one-byte scan units, the top bit leftmost
 pub record OrderGood (b : BitmapData) : Type 0 where
   pub unit : b .unit ≡ 0
@@ -77,5 +85,5 @@ pub record Passes (s : List ℕ) (rec : Record) : Type 0 where
   pub loads : loaded s ≡ Loaded.Font rec
   pub order : OrderGood (rec .bitmaps)
   pub bounds : BoundsGood (boundsOf rec)
-  pub properties : (i : ℕ) → i < rec .props .count → PropertyGood s (rec .props) i
-  pub codes : (code g : ℕ) → code < 65536 → HasGlyph s rec code g → GlyphGood s rec g
+  pub properties : PropertiesGood s (rec .props) (rec .props .count)
+  pub codes : CodesGood s rec 65536

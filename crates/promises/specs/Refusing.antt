@@ -7,7 +7,7 @@ use mathlib.Core.Logic.{_⊎_}
 use Rattle.tables.specs.declared.Record.{Record}
 use Rattle.metrics.specs.Measure.{metricsAt}
 use Rattle.place.specs.Bounds.{boundsOf}
-use Rattle.promises.specs.Passing.{HasGlyph, OrderGood, BoundsGood, MetricsGood, PropertyGood, RowsGood, NameEnds, GlyphGood}
+use Rattle.promises.specs.Passing.{HasGlyph, OrderGood, BoundsGood, MetricsGood, PropertyGood, PropertiesGood, RowsGood, NameEnds, CodesGood}
 
 -- a condition, and the number that refuses where it does not hold
 pub record Condition : Type 1 where
@@ -33,20 +33,12 @@ glyphConditions s rec g =
     ∷ unless 18 (NameEnds s (rec .names) g)
     ∷ []
 
--- every property up to this one is good
-abbrev pub PropertiesGood : List ℕ → Record → ℕ → Type 0
-PropertiesGood s rec end = (i : ℕ) → i < end → PropertyGood s (rec .props) i
-
--- every code up to this one has a good glyph or none
-abbrev pub CodesGood : List ℕ → Record → ℕ → Type 0
-CodesGood s rec end = (code g : ℕ) → code < end → HasGlyph s rec code g → GlyphGood s rec g
-
 -- the first property that is not good: 18
 pub record PropertyFails (s : List ℕ) (rec : Record) (n place : ℕ) : Type 0 where
   pub number : n ≡ 18
   pub counted : place < rec .props .count
   pub bad : PropertyGood s (rec .props) place → ⊥
-  pub before : PropertiesGood s rec place
+  pub before : PropertiesGood s (rec .props) place
 
 -- the first code whose glyph is not good, and the first condition of that glyph that does not hold
 pub record CodeFails (s : List ℕ) (rec : Record) (n place : ℕ) : Type 0 where
@@ -62,4 +54,4 @@ Refuses s rec n place =
     ((OrderGood (rec .bitmaps) → ⊥) × (n ≡ 13) × (place ≡ 0))
     ⊎ (OrderGood (rec .bitmaps) × (BoundsGood (boundsOf rec) → ⊥) × (n ≡ 11) × (place ≡ 0))
     ⊎ (OrderGood (rec .bitmaps) × BoundsGood (boundsOf rec) × PropertyFails s rec n place)
-    ⊎ (OrderGood (rec .bitmaps) × BoundsGood (boundsOf rec) × PropertiesGood s rec (rec .props .count) × CodeFails s rec n place)
+    ⊎ (OrderGood (rec .bitmaps) × BoundsGood (boundsOf rec) × PropertiesGood s (rec .props) (rec .props .count) × CodeFails s rec n place)
