@@ -9,9 +9,6 @@ import sys
 
 ROOT = os.path.dirname(os.path.dirname(os.path.dirname(os.path.abspath(__file__))))
 
-# what only reads and prints: there is no answer and no buffer that a contract could determine
-SILENT = {("dumper", "run")}
-
 
 def public_functions():
     """crate, name, and the text from the signature to the body, of each `pub fn` of a library"""
@@ -47,8 +44,6 @@ def main():
         found.add((crate, name))
         if re.search(r"\brequires\b", clauses):
             bad.append(f"{crate}::{name} has a requires")
-        if (crate, name) in SILENT and "->" not in clauses and "&mut" not in clauses:
-            continue
         if not re.search(r"\bensures\b", clauses):
             bad.append(f"{crate}::{name} has no ensures")
         if (crate, name) not in theorems:
@@ -58,7 +53,7 @@ def main():
     bad += [f"{crate}::{name} has a theorem, but is no public function" for crate, name in sorted(set(theorems) - found)]
     for line in bad:
         print(line)
-    print(f"contracts: {len(found)} public functions, {len(SILENT)} of them without an answer; {len(bad)} faults")
+    print(f"contracts: {len(found)} public functions, {len(bad)} faults")
     return 1 if bad else 0
 
 

@@ -5,8 +5,10 @@ fn one(path: &[u8]) {
         io::write_all(1, b"no file\n");
         return;
     }
-    dumper::run(fd);
+    let mut text = [0u8; 147457];
+    let n = io::read_full(fd, &mut text);
     libc::close(fd);
+    dumper::print_dump(&text[..n]);
 }
 
 fn named(i: usize) {

@@ -1,4 +1,4 @@
-// The dump of a descriptor: hexadecimal lines in, frames out. A program is one line above it.
+// The dump of a text: hexadecimal lines in, frames out on standard output.
 use frames::Printed;
 use frames::put_frame;
 use frames::put_refused;
@@ -12,6 +12,7 @@ ghost use mathlib.Core.Path.{_≡_};
 ghost use Prim.Native.Nat.{_≤_};
 ghost use lib.ListN.{length};
 ghost use Rattle.vet.specs.Vet.{vetted};
+ghost use Rattle.frames.specs.Dump.{vettedNumber, dumpNumber};
 
 // Stands where no run comes: each caller proves that of its place.
 fn unreached()
@@ -64,43 +65,48 @@ fn print_frames(font: &[u8], rec: Record, out: &mut [u8])
     }
 }
 
-fn print_font(font: &[u8], out: &mut [u8])
+// A font's frames, or the number that it is refused with; the answer is that number, or 0.
+fn print_font(font: &[u8], out: &mut [u8]) -> u8
     requires { ⌜ length (now font) ≤ 49152 ⌝ }
     requires { ⌜ 196642 ≤ length (now out) ⌝ }
+    ensures { λ r. ⌜ r ≡ vettedNumber (vetted (now (font .entry))) ⌝ }
 {
     match vet::vet(font) {
         Vetted::Passed(rec) => {
             print_frames(font, rec, out);
+            0
         }
         Vetted::Refused(r) => {
             print_refused(r.number, out);
+            r.number
         }
     }
 }
 
-fn print_text(text: &[u8], font: &mut [u8], out: &mut [u8])
+// The same of a text, with buffers that have room for any font and any frame.
+fn print_text(text: &[u8], font: &mut [u8], out: &mut [u8]) -> u8
+    requires { ⌜ 49152 ≤ length (now font) ⌝ }
     requires { ⌜ 196642 ≤ length (now out) ⌝ }
+    ensures { λ r. ⌜ r ≡ dumpNumber (now (text .entry)) ⌝ }
 {
     match fill_bytes(text, font) {
-        HexRead::Bytes(n) => {
-            print_font(&font[..n], out);
-        }
-        HexRead::Refused(r) => {
-            print_refused(r.number, out);
+        HexRead::Bytes(n) => print_font(&font[..n], out),
+        HexRead::Refused(bad) => {
+            print_refused(bad.number, out);
+            bad.number
         }
     }
 }
 
-// Reads the descriptor, a font as lines of hexadecimal digits, and writes to standard output one
-// frame a line for each code with a glyph, or the single line `refused NN`.
+// Writes the dump of a font, given as lines of hexadecimal digits, to standard output: one frame a line
+// for each code with a glyph, or the single line `refused NN`. Answers the number that it refused
+// with, 0 where it printed frames: 20 for the lines, and then as `vet::vet` refuses.
 //
-// A font of 49,152 bytes has at most 147,456 characters, two digits and a newline a byte. A longer
-// text is refused with 20, and so are its first 147,457 characters: the rest need not be read. A
-// frame of such a font has at most 196,642 characters.
-pub fn run(fd: i32) {
-    let mut text = [0u8; 147457];
+// A frame of a font of 49,152 bytes has at most 196,642 characters.
+pub fn print_dump(text: &[u8]) -> u8
+    ensures { λ r. ⌜ r ≡ dumpNumber (now (text .entry)) ⌝ }
+{
     let mut font = [0u8; 49152];
     let mut out = [0u8; 196642];
-    let n = io::read_full(fd, &mut text);
-    print_text(&text[..n], &mut font, &mut out);
+    print_text(text, &mut font, &mut out)
 }

@@ -5,3 +5,4 @@ pub mod FrameLength
 pub mod FrameRoom
 pub mod FramesRange
 pub mod DumpRange
+pub mod DumpNumber

@@ -20,3 +20,15 @@ dumpRead s (HexRead.Refused r) = refusedLine (r .number)
 -- what is printed for this input
 unfoldable pub dumped : List ℕ → List ℕ
 dumped text = dumpRead (hexBytes text) (hexRead text)
+
+-- the number that the dump refuses with; 0 where it prints frames
+abbrev pub vettedNumber : Vetted → ℕ
+vettedNumber (Vetted.Passed rec) = 0
+vettedNumber (Vetted.Refused r) = r .number
+
+abbrev pub readNumber : List ℕ → HexRead → ℕ
+readNumber s (HexRead.Bytes n) = vettedNumber (vetted s)
+readNumber s (HexRead.Refused r) = r .number
+
+unfoldable pub dumpNumber : List ℕ → ℕ
+dumpNumber text = readNumber (hexBytes text) (hexRead text)

@@ -101,6 +101,8 @@ use Rattle.frames.proofs.put_frame.Kinds as put-frame-kinds
 use Rattle.frames.proofs.put_frame.Reads as put-frame-reads
 use Rattle.frames.proofs.put_refused.Kinds as put-refused-kinds
 use Rattle.frames.proofs.put_refused.Reads as put-refused-reads
+use Rattle.dumper.proofs.print_dump.Kinds as print-dump-kinds
+use Rattle.dumper.proofs.print_dump.Reads as print-dump-reads
 
 pub byte-at-unique : Fixes 1 byte-at-kinds.ps byte-at-kinds.r byte-at-reads.Post
 byte-at-unique κs a r₁ r₂ x₁ x₂ p q = p ∙ sym q
@@ -227,6 +229,9 @@ prop-of-unique κs a r₁ r₂ x₁ x₂ p q = p ∙ sym q
 
 pub vet-unique : Fixes 1 vet-kinds.ps vet-kinds.r vet-reads.Post
 vet-unique κs a r₁ r₂ x₁ x₂ p q = p ∙ sym q
+
+pub print-dump-unique : Fixes 1 print-dump-kinds.ps print-dump-kinds.r print-dump-reads.Post
+print-dump-unique κs a r₁ r₂ x₁ x₂ p q = p ∙ sym q
 
 pub part-of-unique : FixesBytes 1 part-of-kinds.ps part-of-kinds.r part-of-reads.Post (λ κs r. now r)
 part-of-unique κs a r₁ r₂ x₁ x₂ p q = p ∙ sym q
