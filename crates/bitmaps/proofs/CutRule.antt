@@ -2,7 +2,7 @@
 use Prim.Native.Nat.{ℕ, _-_, _*_, _/_, _≤_}
 use mathlib.Core.Path.{_≡_}
 use native.Mathlib.Omega.{arith}
-use native.Mathlib.Nat.{div-mul-le-self, mul-le-mul-right, le-trans, zero-div, min-eq-left}
+use native.Mathlib.Nat.{div-mul-le-self, mul-le-mul-right, le-trans, zero-div, div-zero, mul-zero, min-eq-left}
 use Rattle.bitmaps.specs.Cut.{linesFrom, drawnRows}
 
 module _ (len p stride scale height : ℕ) where
@@ -26,3 +26,10 @@ module _ (len p stride scale height : ℕ) where
   drawn-none h =
       let none : len - p ≡ 0 = omega arith in
       rw (none, zero-div stride, zero-div scale) (omega arith)
+
+  -- nothing is drawn in lines or blocks of no pixels
+  pub drawn-no-stride : stride ≡ 0 → drawnRows len p stride scale height ≡ 0
+  drawn-no-stride e = rw (e, div-zero (len - p), zero-div scale) (omega arith)
+
+  pub drawn-no-scale : scale ≡ 0 → drawnRows len p stride scale height ≡ 0
+  drawn-no-scale e = rw (e, mul-zero (linesFrom len p stride / 0)) (omega arith)

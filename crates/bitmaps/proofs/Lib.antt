@@ -1,6 +1,14 @@
-pub mod CutRule
+pub mod Searching
 pub mod Painting
 pub mod Pixels
+pub mod CutRule
 pub mod DataBytes
 pub mod RowsInside
 pub mod LastByte
+pub mod Shift
+pub mod InFile
+pub mod Order
+pub mod WholeBytes
+pub mod NoDots
+pub mod PictureRows
+pub mod LentRows

@@ -12,7 +12,7 @@ use Rattle.tables.specs.declared.BitmapData.{BitmapData}
 use Rattle.bitmaps.specs.Paint.{some}
 use Rattle.bitmaps.specs.Rows.{bytesPast}
 use Rattle.bitmaps.specs.Picture.{bitsOf, rowOf, rowsShort}
-use Rattle.bitmaps.proofs.Painting.{some-true, some-witness}
+use Rattle.bitmaps.proofs.Searching.{some-true, some-witness}
 
 module _ (s : List ℕ) (b : BitmapData) (g width n : ℕ) where
   abbrev past : ℕ → ℕ → Bool

@@ -19,10 +19,18 @@ rowStride width pad = (rowBytes width + (pad - 1)) / pad * pad
 abbrev pub rowByte : List ℕ → ℕ → ℕ → ℕ
 rowByte bits row j = getD bits (row + j) 0
 
--- the bit at column c of that row: "top bit leftmost"
+-- the bit at column k of a byte: "top bit leftmost"
+unfoldable pub column : ℕ → ℕ → Bool
+column byte k = eqb (byte / 2 ^ (7 - k) % 2) 1
+
+-- which byte of a row holds column c
+abbrev pub byteOf : ℕ → ℕ
+byteOf c = c / 8
+
+-- the bit at column c of that row
 unfoldable pub bitAt : List ℕ → ℕ → ℕ → Bool
-bitAt bits row c = eqb (rowByte bits row (c / 8) / 2 ^ (7 - c % 8) % 2) 1
+bitAt bits row c = column (rowByte bits row (byteOf c)) (c % 8)
 
 -- 14, in data of `size` bytes: the byte of some column of the first n rows, of which row r begins at `row r`
 unfoldable pub bytesPast : ℕ → (ℕ → ℕ) → ℕ → ℕ → Bool
-bytesPast size row width n = some n (λ r. some width (λ c. leb size (row r + c / 8)))
+bytesPast size row width n = some n (λ r. some width (λ c. leb size (row r + byteOf c)))

@@ -12,10 +12,11 @@ use reads::Refusal;
 // How many rows were drawn, and how many the buffer's end cut off.
 #[repr(C)]
 pub struct Rows {
-    pub drawn: usize,
-    pub dropped: usize,
+    pub drawn: u16,
+    pub dropped: u16,
 }
 
+// What drawing answers.
 pub enum Drawn {
     Rows(Rows),
     Refused(Refusal),
@@ -23,6 +24,6 @@ pub enum Drawn {
 
 // How many rows were unpacked.
 pub enum Unpacked {
-    Rows(usize),
+    Rows(u16),
     Refused(Refusal),
 }
