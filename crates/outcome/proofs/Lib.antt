@@ -1,0 +1,4 @@
+pub mod Sizes
+pub mod Corner
+pub mod WithinLimits
+pub mod Answered

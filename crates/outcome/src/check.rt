@@ -1,0 +1,184 @@
+// The answers, refusals in their order.
+use crate::past::pixel_past;
+use crate::past::room_from;
+use bitmaps::Drawn;
+use bitmaps::Rows;
+use bitmaps::Unpacked;
+use bitmaps::row_bytes;
+use bitmaps::rows_short;
+use bitmaps::unreadable;
+use reads::GlyphIndex;
+use reads::Refusal;
+use tables::BitmapData;
+use tables::Record;
+use tables::record_fits;
+ghost use mathlib.Core.Path.{_≡_};
+ghost use Rattle.bitmaps.specs.Limits.{okPlace, okPair};
+ghost use Rattle.bitmaps.specs.Cut.{drawnRows};
+ghost use Rattle.bitmaps.specs.Draw.{shownAt, drawBitmap};
+ghost use Rattle.bitmaps.specs.Unpack.{unpackedAt};
+
+// How many of a glyph's rows are drawn into a buffer of `len` pixels from p on: the buffer's whole lines,
+// in groups of `scale`.
+fn rows_drawn(len: usize, p: usize, stride: u16, scale: u8, height: u16) -> u16
+    ensures { λ r. ⌜ r ≡ drawnRows len p stride scale height ⌝ }
+{
+    if stride == 0 {
+        return 0;
+    }
+    if scale == 0 {
+        return 0;
+    }
+    let side = scale as usize;
+    let whole = room_from(len, p) / stride as usize / side * side;
+    if height as usize <= whole {
+        return height;
+    }
+    whole as u16
+}
+
+// What drawing glyph g, of this width and height, at place p answers: 13, 14 over the drawn rows, 16, or
+// the rows. Does not test the record, nor whether g has a bitmap.
+pub fn shown_at(
+    s: &[u8],
+    b: BitmapData,
+    g: GlyphIndex,
+    width: u16,
+    height: u16,
+    len: usize,
+    p: usize,
+    stride: u16,
+    scale: u8,
+) -> Drawn
+    ensures { λ r. ⌜ r ≡ shownAt (now (s .entry)) b (g .0) width height len p stride scale ⌝ }
+{
+    if unreadable(b) {
+        return Drawn::Refused(Refusal {
+            number: 13,
+            place: 0,
+        });
+    }
+    let n = rows_drawn(len, p, stride, scale, height);
+    if rows_short(s, b, g, width, n) {
+        return Drawn::Refused(Refusal {
+            number: 14,
+            place: 0,
+        });
+    }
+    if pixel_past(s, b, g, width, width as u32, n, len, p, stride, scale) {
+        return Drawn::Refused(Refusal {
+            number: 16,
+            place: 0,
+        });
+    }
+    Drawn::Rows(Rows {
+        drawn: n,
+        dropped: height - n,
+    })
+}
+
+// What unpacking glyph g at place p answers: 13, 14 over all rows, 16 for every whole row byte, or the
+// rows. Does not test the record, nor whether g has a bitmap.
+pub fn unpacked_at(
+    s: &[u8],
+    b: BitmapData,
+    g: GlyphIndex,
+    width: u16,
+    height: u16,
+    len: usize,
+    p: usize,
+    stride: u16,
+) -> Unpacked
+    ensures { λ r. ⌜ r ≡ unpackedAt (now (s .entry)) b (g .0) width height len p stride ⌝ }
+{
+    if unreadable(b) {
+        return Unpacked::Refused(Refusal {
+            number: 13,
+            place: 0,
+        });
+    }
+    if rows_short(s, b, g, width, height) {
+        return Unpacked::Refused(Refusal {
+            number: 14,
+            place: 0,
+        });
+    }
+    if pixel_past(
+        s,
+        b,
+        g,
+        width,
+        8 * row_bytes(width),
+        height,
+        len,
+        p,
+        stride,
+        1,
+    ) {
+        return Unpacked::Refused(Refusal {
+            number: 16,
+            place: 0,
+        });
+    }
+    Unpacked::Rows(height)
+}
+
+// Whether a caller's start, stride and scale are within their limits: start at most 2,147,483,647, stride
+// 1 to 65,535, scale 1 to 64. If not, drawing answers 15.
+pub fn ok_place(start: usize, stride: usize, scale: usize) -> bool
+    ensures { λ r. ⌜ r ≡ okPlace start stride scale ⌝ }
+{
+    (start <= 2147483647) & ((1 <= stride) & (stride <= 65535)) & ((1 <= scale) & (scale <= 64))
+}
+
+// Whether two given widths, heights or pads are at most 32,767. If not, drawing answers 15.
+pub fn ok_pair(a: usize, b: usize) -> bool
+    ensures { λ r. ⌜ r ≡ okPair a b ⌝ }
+{
+    (a <= 32767) & (b <= 32767)
+}
+
+// What `paint::draw_bitmap` answers with a buffer of `len` pixels, refusals and their order too: a dry run.
+pub fn bitmap_check(
+    bytes: &[u8],
+    rec: Record,
+    g: GlyphIndex,
+    width: usize,
+    height: usize,
+    len: usize,
+    start: usize,
+    stride: usize,
+    scale: usize,
+) -> Drawn
+    ensures { λ r. ⌜ r ≡ drawBitmap (now (bytes .entry)) rec (g .0) width height len start stride scale ⌝ }
+{
+    if !record_fits(bytes.len(), rec) {
+        return Drawn::Refused(Refusal {
+            number: 6,
+            place: 0,
+        });
+    }
+    if !(ok_place(start, stride, scale) & ok_pair(width, height)) {
+        return Drawn::Refused(Refusal {
+            number: 15,
+            place: 0,
+        });
+    }
+    if rec.bitmaps.count <= g.0 as u32 {
+        return Drawn::Refused(Refusal {
+            number: 12,
+            place: 0,
+        });
+    }
+    shown_at(
+        bytes,
+        rec.bitmaps,
+        g,
+        width as u16,
+        height as u16,
+        len,
+        start,
+        stride as u16,
+        scale as u8,
+    )
+}

@@ -1,0 +1,10 @@
+// What drawing or unpacking a bitmap answers, from the buffer's length alone: the dry run, and the first
+// of the two passes of every drawing. Nothing is coloured here.
+mod check;
+mod past;
+
+pub use check::bitmap_check;
+pub use check::ok_pair;
+pub use check::ok_place;
+pub use check::shown_at;
+pub use check::unpacked_at;
