@@ -1,0 +1,3 @@
+pub mod FirstColumns
+pub mod SetBlock
+pub mod RowBytes
