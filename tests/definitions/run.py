@@ -191,9 +191,9 @@ use Rattle.bitmaps.specs.Draw.{saidDrawn, shownLeaves}
 use Rattle.bitmaps.specs.Unpack.{saidUnpacked}
 use Rattle.place.specs.Bounds.{saidSized}
 use Rattle.place.specs.Info.{saidPrepared}
-use Rattle.place.specs.Glyph.{glyphLeaves}
-use Rattle.place.specs.Char.{saidChar, charLeaves}
-use Rattle.place.specs.Unpack.{unpackLeaves}
+use Rattle.glyphs.specs.Glyph.{glyphLeaves}
+use Rattle.glyphs.specs.Char.{saidChar, charLeaves}
+use Rattle.glyphs.specs.Unpack.{unpackLeaves}
 use Rattle.place.specs.declared.GlyphInfo.{GlyphInfo}
 use Rattle.utf8.specs.Step.{saidStep}
 use Rattle.text.specs.Text.{saidText, stringLeaves}
@@ -350,7 +350,8 @@ def main():
     with tempfile.TemporaryDirectory() as folder:
         copy_definitions(folder)
         with open(os.path.join(ROOT, "crates.txt"), encoding="utf-8") as f:
-            lines = [line for line in f if line.split(":")[0] in crates()]
+            below = [line.split(":") for line in f if line.split(":")[0] in crates()]
+        lines = [f"{name}: {' '.join(c for c in on.split() if c in crates())}\n" for name, on in below]
         for i, batch in enumerate(batches):
             write_crate(folder, f"computed{i}", batch, fonts)
             lines.append(f"computed{i}: {' '.join(crates())}\n")

@@ -1,5 +1,2 @@
 pub mod Bounds
 pub mod Info
-pub mod Glyph
-pub mod Char
-pub mod Unpack

@@ -6,16 +6,20 @@ use crate::bounds::in_range;
 use crate::bounds::is_natural;
 use crate::bounds::natural_i16;
 use crate::bounds::natural_i32;
+use lookup::Found;
+use lookup::glyph_of;
 use metrics::Measured;
 use metrics::metrics_of;
+use reads::CharCode;
 use reads::GlyphIndex;
 use reads::Refusal;
 use tables::MetricsUnpacked;
 use tables::Record;
+use tables::record_fits;
 ghost use mathlib.Core.Path.{_≡_};
 ghost use mathlib.Core.Bool.{true};
 ghost use lib.Signed.{leZ};
-ghost use Rattle.place.specs.Info.{placeable, boxOf, infoOf};
+ghost use Rattle.place.specs.Info.{placeable, boxOf, infoOf, prepared, prepChar};
 
 fn at_most(a: i16, b: i16) -> bool
     ensures { λ r. ⌜ r ≡ leZ a b ⌝ }
@@ -68,5 +72,32 @@ pub fn info_of(s: &[u8], rec: Record, g: GlyphIndex) -> Prepared
             })
         }
         Measured::Refused(r) => Prepared::Refused(r),
+    }
+}
+
+// A character's box, or 9, 10, 11. Does not test the record.
+pub fn char_info(s: &[u8], rec: Record, code: CharCode) -> Prepared
+    ensures { λ r. ⌜ r ≡ prepared (now (s .entry)) rec (code .0) ⌝ }
+{
+    let found = glyph_of(s, rec.codes, code);
+    match found {
+        Found::Glyph(g) => info_of(s, rec, g),
+        Found::Refused(r) => Prepared::Refused(r),
+    }
+}
+
+// Where and how large a character's glyph is drawn. Refused, all with place 0: 6 for a record that fails
+// its test with these bytes, 9 for a code without a glyph, 10 for a glyph without metrics, 11 for metrics
+// out of range.
+pub fn prep_char(bytes: &[u8], rec: Record, code: CharCode) -> Prepared
+    ensures { λ r. ⌜ r ≡ prepChar (now (bytes .entry)) rec (code .0) ⌝ }
+{
+    if record_fits(bytes.len(), rec) {
+        char_info(bytes, rec, code)
+    } else {
+        Prepared::Refused(Refusal {
+            number: 6,
+            place: 0,
+        })
     }
 }

@@ -1,11 +1,12 @@
-// A character placed: its glyph's box, and drawing or unpacking that box.
+// A character placed: its glyph's box under the bounds of all glyphs.
 mod bounds;
 mod boxes;
 
-use bitmaps::Rows;
 pub use bounds::bounds_hold;
 pub use bounds::dimensions;
+pub use boxes::char_info;
 pub use boxes::info_of;
+pub use boxes::prep_char;
 use reads::GlyphIndex;
 use reads::Refusal;
 
@@ -33,12 +34,8 @@ pub enum Sized {
     Refused(Refusal),
 }
 
+// A character's glyph, placed.
 pub enum Prepared {
     Info(GlyphInfo),
-    Refused(Refusal),
-}
-
-pub enum CharDrawn {
-    Glyph(GlyphInfo, Rows),
     Refused(Refusal),
 }

@@ -13,7 +13,7 @@ use Rattle.lookup.specs.declared.Found.{Found}
 use Rattle.bitmaps.specs.declared.Drawn.{Drawn}
 use Rattle.place.specs.Bounds.{heightOf, boundsOf}
 use Rattle.place.specs.Info.{infoOf}
-use Rattle.place.specs.Glyph.{nothingDrawn, glyphDrawn, inInfo}
+use Rattle.glyphs.specs.Glyph.{nothingDrawn, glyphDrawn, inInfo}
 use Rattle.place.specs.declared.GlyphInfo.{GlyphInfo}
 use Rattle.place.specs.declared.Prepared.{Prepared}
 use Rattle.text.specs.declared.Wrap.{Wrap}

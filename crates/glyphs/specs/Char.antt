@@ -10,11 +10,11 @@ use Rattle.bitmaps.specs.Paint.{painted}
 use Rattle.bitmaps.specs.Limits.{okPlace}
 use Rattle.bitmaps.specs.Draw.{rowsValues}
 use Rattle.bitmaps.specs.declared.Drawn.{Drawn}
 use Rattle.place.specs.Info.{prepared, infoValues}
-use Rattle.place.specs.Glyph.{glyphDrawn, inInfo}
+use Rattle.glyphs.specs.Glyph.{glyphDrawn, inInfo}
 use Rattle.place.specs.declared.GlyphInfo.{GlyphInfo}
 use Rattle.place.specs.declared.Prepared.{Prepared}
-use Rattle.place.specs.declared.CharDrawn.{CharDrawn}
+use Rattle.glyphs.specs.declared.CharDrawn.{CharDrawn}
 
 abbrev pub withInfo : Prepared → (GlyphInfo → CharDrawn) → CharDrawn
 withInfo (Prepared.Info i) rest = rest i

@@ -11,8 +11,8 @@ use Rattle.bitmaps.specs.Limits.{okPlace}
 use Rattle.bitmaps.specs.Picture.{noBitmap}
 use Rattle.bitmaps.specs.Unpack.{unpackedAt, unpackedLeaves}
 use Rattle.bitmaps.specs.declared.Unpacked.{Unpacked}
-use Rattle.place.specs.Glyph.{placeOf, okInfo}
+use Rattle.glyphs.specs.Glyph.{placeOf, okInfo}
 use Rattle.place.specs.declared.GlyphInfo.{GlyphInfo}
 
 -- a placed glyph into `len` bytes: 13, 14, 16, or its rows
 unfoldable pub glyphUnpacked : List ℕ → BitmapData → GlyphInfo → ℕ → ℕ → ℕ → Unpacked

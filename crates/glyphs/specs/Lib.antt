@@ -1,0 +1,3 @@
+pub mod Glyph
+pub mod Char
+pub mod Unpack

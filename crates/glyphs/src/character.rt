@@ -1,0 +1,118 @@
+// Drawing a character.
+use crate::CharDrawn;
+use crate::glyph::glyph_drawn;
+use crate::glyph::show_glyph;
+use bitmaps::Drawn;
+use outcome::ok_place;
+use place::GlyphInfo;
+use place::Prepared;
+use place::char_info;
+use reads::CharCode;
+use reads::Refusal;
+use tables::Record;
+use tables::record_fits;
+ghost use mathlib.Core.Path.{_≡_};
+ghost use lib.ListN.{length};
+ghost use Rattle.glyphs.specs.Char.{charOf, drawChar, charLeaves};
+
+// The answer for a glyph that was placed so and drawn so.
+fn char_of(info: GlyphInfo, drawn: Drawn) -> CharDrawn
+    ensures { λ r. ⌜ r ≡ charOf info drawn ⌝ }
+{
+    match drawn {
+        Drawn::Rows(rows) => CharDrawn::Glyph(info, rows),
+        Drawn::Refused(r) => CharDrawn::Refused(r),
+    }
+}
+
+// What `draw_char` answers with a buffer of `len` pixels, refusals and their order too: a dry run.
+pub fn char_check(
+    bytes: &[u8],
+    rec: Record,
+    code: CharCode,
+    len: usize,
+    start: usize,
+    stride: usize,
+    scale: usize,
+) -> CharDrawn
+    ensures { λ r. ⌜ r ≡ drawChar (now (bytes .entry)) rec (code .0) len start stride scale ⌝ }
+{
+    if !record_fits(bytes.len(), rec) {
+        return CharDrawn::Refused(Refusal {
+            number: 6,
+            place: 0,
+        });
+    }
+    if !ok_place(start, stride, scale) {
+        return CharDrawn::Refused(Refusal {
+            number: 15,
+            place: 0,
+        });
+    }
+    let ready = char_info(bytes, rec, code);
+    match ready {
+        Prepared::Info(info) => {
+            let drawn = glyph_drawn(
+                bytes,
+                rec.bitmaps,
+                info,
+                len,
+                start,
+                stride as u16,
+                scale as u8,
+            );
+            char_of(info, drawn)
+        }
+        Prepared::Refused(r) => CharDrawn::Refused(r),
+    }
+}
+
+// Draws a character's glyph where `place::prep_char` places it, and answers that place and the rows
+// drawn and dropped; a glyph without a bitmap draws nothing and drops nothing. Refused, all with place 0
+// and no pixel coloured: 6 for a record that fails its test with these bytes; 15 for a start, stride or
+// scale outside its limits (`outcome::ok_place`); 9, 10 and 11 as `place::prep_char`; 13 for a scan unit
+// code other than 0, or a byte's top bit not leftmost; 14 where a byte that holds columns of a drawn row
+// lies beyond the bitmap data; 16 where a set bit of a drawn row has a pixel beyond the buffer.
+pub fn draw_char(
+    bytes: &[u8],
+    rec: Record,
+    code: CharCode,
+    buf: &mut [u32],
+    start: usize,
+    stride: usize,
+    scale: usize,
+    colour: u32,
+) -> CharDrawn
+    ensures { λ r. ⌜ r ≡ drawChar (now (bytes .entry)) rec (code .0) (length (now (buf .entry))) start stride scale ⌝ }
+    ensures { λ r. ⌜ now (buf .exit) ≡ charLeaves (now (bytes .entry)) rec start stride scale colour r (now (buf .entry)) ⌝ }
+{
+    if !record_fits(bytes.len(), rec) {
+        return CharDrawn::Refused(Refusal {
+            number: 6,
+            place: 0,
+        });
+    }
+    if !ok_place(start, stride, scale) {
+        return CharDrawn::Refused(Refusal {
+            number: 15,
+            place: 0,
+        });
+    }
+    let ready = char_info(bytes, rec, code);
+    match ready {
+        Prepared::Info(info) => {
+            let drawn = show_glyph(
+                bytes,
+                rec.bitmaps,
+                info,
+                &mut *buf,
+                start,
+                stride as u16,
+                scale as u8,
+                colour,
+            );
+            char_of(info, drawn)
+        }
+        Prepared::Refused(r) => CharDrawn::Refused(r),
+    }
+}

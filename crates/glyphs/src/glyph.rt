@@ -1,0 +1,176 @@
+// Drawing a placed glyph.
+use bitmaps::Drawn;
+use bitmaps::Rows;
+use outcome::ok_pair;
+use outcome::ok_place;
+use outcome::shown_at;
+use paint::show_at;
+use place::GlyphInfo;
+use reads::Refusal;
+use tables::BitmapData;
+use tables::Record;
+use tables::record_fits;
+ghost use mathlib.Core.Path.{_≡_};
+ghost use Prim.Native.Nat.{min};
+ghost use lib.ListN.{length};
+ghost use Rattle.bitmaps.specs.Draw.{shownLeaves};
+ghost use Rattle.glyphs.specs.Glyph.{placeOf, okInfo, glyphDrawn, drawGlyph, glyphLeaves};
+
+// Where a placed glyph is drawn; 2^64 - 1 where that is beyond 64 bits, and so beyond any buffer.
+pub(crate) fn place_of(info: GlyphInfo, start: usize, stride: u16, scale: u8) -> usize
+    ensures { λ r. ⌜ r ≡ min 18446744073709551615 (placeOf info start stride scale) ⌝ }
+{
+    let side = scale as usize;
+    let down = stride as usize * side * info.pad_top as usize;
+    let right = side * info.pad_left as usize;
+    if 18446744073709551615 - (down + right) < start {
+        return 18446744073709551615;
+    }
+    start + down + right
+}
+
+// Whether a given glyph's width, height and pads are within their limits.
+pub(crate) fn ok_info(info: GlyphInfo) -> bool
+    ensures { λ r. ⌜ r ≡ okInfo info ⌝ }
+{
+    ok_pair(info.width as usize, info.height as usize)
+        & ok_pair(info.pad_top as usize, info.pad_left as usize)
+}
+
+// What drawing a placed glyph answers with a buffer of `len` pixels: nothing drawn for a glyph without a
+// bitmap, else 13, 14, 16, or the rows. Does not test the record, and asks no limit of `start`.
+pub fn glyph_drawn(
+    s: &[u8],
+    b: BitmapData,
+    info: GlyphInfo,
+    len: usize,
+    start: usize,
+    stride: u16,
+    scale: u8,
+) -> Drawn
+    ensures { λ r. ⌜ r ≡ glyphDrawn (now (s .entry)) b info len start stride scale ⌝ }
+{
+    let g = info.glyph;
+    if b.count <= g.0 as u32 {
+        return Drawn::Rows(Rows {
+            drawn: 0,
+            dropped: 0,
+        });
+    }
+    let p = place_of(info, start, stride, scale);
+    shown_at(s, b, g, info.width, info.height, len, p, stride, scale)
+}
+
+// The same, with the pixels coloured.
+pub fn show_glyph(
+    s: &[u8],
+    b: BitmapData,
+    info: GlyphInfo,
+    buf: &mut [u32],
+    start: usize,
+    stride: u16,
+    scale: u8,
+    colour: u32,
+) -> Drawn
+    ensures { λ r. ⌜ r ≡ glyphDrawn (now (s .entry)) b info (length (now (buf .entry))) start stride scale ⌝ }
+    ensures { λ r. ⌜ now (buf .exit) ≡ shownLeaves (now (s .entry)) b (info .glyph .0) (info .width) (placeOf info start stride scale) stride scale colour r (now (buf .entry)) ⌝ }
+{
+    let g = info.glyph;
+    if b.count <= g.0 as u32 {
+        return Drawn::Rows(Rows {
+            drawn: 0,
+            dropped: 0,
+        });
+    }
+    let p = place_of(info, start, stride, scale);
+    show_at(
+        s,
+        b,
+        g,
+        info.width,
+        info.height,
+        &mut *buf,
+        p,
+        stride,
+        scale,
+        colour,
+    )
+}
+
+// What `draw_glyph` answers with a buffer of `len` pixels, refusals and their order too: a dry run.
+pub fn glyph_check(
+    bytes: &[u8],
+    rec: Record,
+    info: GlyphInfo,
+    len: usize,
+    start: usize,
+    stride: usize,
+    scale: usize,
+) -> Drawn
+    ensures { λ r. ⌜ r ≡ drawGlyph (now (bytes .entry)) rec info len start stride scale ⌝ }
+{
+    if !record_fits(bytes.len(), rec) {
+        return Drawn::Refused(Refusal {
+            number: 6,
+            place: 0,
+        });
+    }
+    if !(ok_place(start, stride, scale) & ok_info(info)) {
+        return Drawn::Refused(Refusal {
+            number: 15,
+            place: 0,
+        });
+    }
+    glyph_drawn(
+        bytes,
+        rec.bitmaps,
+        info,
+        len,
+        start,
+        stride as u16,
+        scale as u8,
+    )
+}
+
+// Draws a placed glyph from `start` on, lowered and moved right by its pads, and answers the rows drawn
+// and dropped; a glyph without a bitmap draws nothing and drops nothing. Refused, all with place 0 and no
+// pixel coloured: 6 for a record that fails its test with these bytes; 15 for a start, stride or scale
+// outside its limits (`outcome::ok_place`), or a width, height or pad over 32,767; 13 for a scan unit code
+// other than 0, or a byte's top bit not leftmost; 14 where a byte that holds columns of a drawn row lies
+// beyond the bitmap data; 16 where a set bit of a drawn row has a pixel beyond the buffer.
+pub fn draw_glyph(
+    bytes: &[u8],
+    rec: Record,
+    info: GlyphInfo,
+    buf: &mut [u32],
+    start: usize,
+    stride: usize,
+    scale: usize,
+    colour: u32,
+) -> Drawn
+    ensures { λ r. ⌜ r ≡ drawGlyph (now (bytes .entry)) rec info (length (now (buf .entry))) start stride scale ⌝ }
+    ensures { λ r. ⌜ now (buf .exit) ≡ glyphLeaves (now (bytes .entry)) rec info start stride scale colour r (now (buf .entry)) ⌝ }
+{
+    if !record_fits(bytes.len(), rec) {
+        return Drawn::Refused(Refusal {
+            number: 6,
+            place: 0,
+        });
+    }
+    if !(ok_place(start, stride, scale) & ok_info(info)) {
+        return Drawn::Refused(Refusal {
+            number: 15,
+            place: 0,
+        });
+    }
+    show_glyph(
+        bytes,
+        rec.bitmaps,
+        info,
+        &mut *buf,
+        start,
+        stride as u16,
+        scale as u8,
+        colour,
+    )
+}

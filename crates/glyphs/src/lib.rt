@@ -1,0 +1,23 @@
+// A placed glyph drawn or unpacked, and a character drawn. Each call that takes a record tests it once;
+// `glyph_drawn` and `show_glyph`, for texts, do not test it again.
+mod character;
+mod glyph;
+mod unpacking;
+
+use bitmaps::Rows;
+pub use character::char_check;
+pub use character::draw_char;
+pub use glyph::draw_glyph;
+pub use glyph::glyph_check;
+pub use glyph::glyph_drawn;
+pub use glyph::show_glyph;
+use place::GlyphInfo;
+use reads::Refusal;
+pub use unpacking::unpack_check;
+pub use unpacking::unpack_glyph;
+
+// The placed glyph, and its rows drawn and dropped.
+pub enum CharDrawn {
+    Glyph(GlyphInfo, Rows),
+    Refused(Refusal),
+}
