@@ -4,3 +4,4 @@ mod Unique
 mod RecordTest
 mod Vetting
 mod VettingRefuses
+mod Drawing

@@ -13,14 +13,14 @@ use Rattle.load.specs.Load.{tableAt, entryOf, entryAt, entriesFrom, loaded}
 use Rattle.lookup.specs.Lookup.{slotOf, glyphOf, getGlyph}
 use Rattle.metrics.specs.Measure.{metricsOf, getMetrics}
 use Rattle.bitmaps.specs.Paint.{some, painted}
-use Rattle.bitmaps.specs.Rows.{bitAt, bytesPast}
-use Rattle.bitmaps.specs.Dots.{someDot}
+use Rattle.bitmaps.specs.Rows.{column, bitAt, bytesPast}
+use Rattle.bitmaps.specs.Dots.{blockDot, rowDot, someDot}
 use Rattle.bitmaps.specs.Picture.{offsetOf, rowsShort, glyphBit}
 use Rattle.bitmaps.specs.Draw.{shownAt}
 use Rattle.place.specs.Bounds.{boundsHold}
 use Rattle.place.specs.Info.{placeable, infoOf, prepared}
-use Rattle.place.specs.Glyph.{glyphDrawn}
-use Rattle.place.specs.Char.{drawChar}
+use Rattle.glyphs.specs.Glyph.{glyphDrawn}
+use Rattle.glyphs.specs.Char.{drawChar}
 use Rattle.utf8.specs.Table.{find, leadOf, table as leads}
 use Rattle.utf8.specs.Step.{longer, stepAt}
 use Rattle.utf8.specs.Decode.{decodeFrom, decoded}
@@ -36,7 +36,7 @@ pub proved-cases : Holds table
 unfolding table seen asked F linesF typed typedLines hexBytes linesOf digitOf digits numAt signed less128
     propertiesTable propertiesAt acceleratorsTable acceleratorsAt wideAt narrowAt metricsTable metricsAt bitmapsTable
     bitmapsAt codesTable codesAt namesTable namesAt propsFit metricsFit bitmapsFit codesFit namesFit recordFits finished
-    tableAt entryOf entryAt entriesFrom loaded slotOf glyphOf getGlyph metricsOf getMetrics some painted bitAt bytesPast
+    tableAt entryOf entryAt entriesFrom loaded slotOf glyphOf getGlyph metricsOf getMetrics some painted column bitAt bytesPast blockDot rowDot
     someDot rowsShort glyphBit shownAt boundsHold placeable infoOf prepared glyphDrawn drawChar find leadOf leads longer
     stepAt decodeFrom decoded placed textFrom inText drawString offsetOf wrapped placedDrawn pairs allPairs
 proved-cases = (refl, (refl, (refl, (refl, (refl, (refl, (refl, (refl, (refl, (refl, tt))))))))))

@@ -1,16 +1,18 @@
 -- A call with a record is refused 6 exactly when the record's test fails: so never with a record that loading gave for the same bytes.
 use mathlib.Core.Path.{_≡_, refl, sym, _∙_}
-use mathlib.Core.Bool.{true, false, cond}
+use mathlib.Core.Bool.{true, false, cond, _&&_}
 use mathlib.Core.List.{List}
 use Prim.Native.Nat.{ℕ, _+_, _-_, _*_}
 use native.Mathlib.Omega.{arith}
 use lib.ListN.{length}
 use lib.Dec.{leb, ltb, eqb}
 use Rattle.reads.specs.Num.{byteAt, u16At, u32At}
-use Rattle.reads.specs.Said.{Said}
+use Rattle.reads.specs.Said.{Said, refusal}
+use Rattle.reads.specs.declared.GlyphIndex.{GlyphIndex}
 use Rattle.reads.proofs.Tests.{never, split, either}
 use Rattle.tables.specs.Fits.{inside, recordFits}
 use Rattle.tables.proofs.RecordParts.{prop-strings, name-strings}
+use Rattle.tables.specs.declared.BitmapData.{BitmapData}
 use Rattle.tables.specs.declared.EncodingData.{EncodingData}
 use Rattle.tables.specs.declared.MetricsUnpacked.{MetricsUnpacked}
 use Rattle.tables.specs.declared.Record.{Record}
@@ -31,7 +33,21 @@ use Rattle.props.specs.declared.PropValue.{PropValue}
 use Rattle.metrics.specs.Measure.{metricsOf, getMetrics, getAccelerators, saidMeasured, saidAccelerated}
 use Rattle.metrics.specs.declared.Measured.{Measured}
 use Rattle.place.specs.Bounds.{boundsOf, boundsHold, boundsSized, dimensions, saidSized}
+use Rattle.place.specs.Info.{placeable, boxOf, withMetrics, infoOf, withGlyph, prepared, prepChar, saidPrepared}
 use Rattle.place.specs.declared.Sized.{Sized}
+use Rattle.place.specs.declared.GlyphInfo.{GlyphInfo}
+use Rattle.place.specs.declared.Prepared.{Prepared}
+use Rattle.bitmaps.specs.Limits.{okPlace, okPair}
+use Rattle.bitmaps.specs.Cut.{drawnRows}
+use Rattle.bitmaps.specs.Picture.{noBitmap, unreadable, rowsShort, pixelPast}
+use Rattle.bitmaps.specs.Draw.{shownAt, drawBitmap, saidDrawn}
+use Rattle.bitmaps.specs.Unpack.{wholeColumns, unpackedAt, saidUnpacked}
+use Rattle.bitmaps.specs.declared.Drawn.{Drawn}
+use Rattle.bitmaps.specs.declared.Unpacked.{Unpacked}
+use Rattle.glyphs.specs.Glyph.{placeOf, okInfo, glyphDrawn, drawGlyph}
+use Rattle.glyphs.specs.Char.{withInfo, charOf, drawChar, saidChar}
+use Rattle.glyphs.specs.Unpack.{glyphUnpacked, unpackGlyph}
+use Rattle.glyphs.specs.declared.CharDrawn.{CharDrawn}
 use Rattle.frames.specs.Frames.{frameOf}
 use Rattle.frames.specs.Put.{lineInto, frameInto, saidPrinted}
 use Rattle.frames.specs.declared.Printed.{Printed}
@@ -92,6 +108,60 @@ dimensions-past m = either (λ (r : Sized). NotSix (saidSized r)) (boundsHold m)
 line-past : (line : List ℕ) (room : ℕ) → NotSix (saidPrinted (lineInto line room))
 line-past line room = either (λ (r : Printed). NotSix (saidPrinted r)) (ltb room (length line)) (λ e. omega arith) (λ e. omega arith)
 
+with-metrics-past : (m : Measured) (rest : MetricsUnpacked → Prepared) → NotSix (saidMeasured m) → ((x : MetricsUnpacked) → NotSix (saidPrepared (rest x)))
+    → NotSix (saidPrepared (withMetrics m rest))
+with-metrics-past (Measured.Metrics x) rest h k = k x
+with-metrics-past (Measured.Refused r) rest h k = h
+
+info-past : (s : List ℕ) (rec : Record) (g : GlyphIndex) → NotSix (saidPrepared (infoOf s rec g))
+unfolding infoOf
+info-past s rec g =
+    let top = boundsOf rec .ascent in
+    with-metrics-past (metricsOf s (rec .metrics) (g .0)) (λ m. cond (placeable m top) (Prepared.Info (boxOf g m top)) (Prepared.Refused (refusal 11 0)))
+    (metrics-past s rec (g .0)) (λ m. either (λ (r : Prepared). NotSix (saidPrepared r)) (placeable m top) (λ e. omega arith) (λ e. omega arith))
+
+with-glyph-past : (f : Found) (rest : GlyphIndex → Prepared) → NotSix (saidFound f) → ((g : GlyphIndex) → NotSix (saidPrepared (rest g))) → NotSix (saidPrepared (withGlyph f rest))
+with-glyph-past (Found.Glyph g) rest h k = k g
+with-glyph-past (Found.Refused r) rest h k = h
+
+prepared-past : (s : List ℕ) (rec : Record) (code : ℕ) → NotSix (saidPrepared (prepared s rec code))
+unfolding prepared glyphOf
+prepared-past s rec code =
+    with-glyph-past (glyphOf s (rec .codes) code) (λ g. infoOf s rec g) (glyph-past s (rec .codes) (slotOf (rec .codes) code)) (λ g. info-past s rec g)
+
+shown-past : (s : List ℕ) (b : BitmapData) (g width height len p stride scale : ℕ) → NotSix (saidDrawn (shownAt s b g width height len p stride scale))
+unfolding shownAt
+shown-past s b g width height len p stride scale =
+    let P : Drawn → Type 0 = λ r. NotSix (saidDrawn r) in
+    let n = drawnRows len p stride scale height in
+    either P (unreadable b) (λ e. omega arith)
+    (either P (rowsShort s b g width n) (λ e. omega arith)
+    (either P (pixelPast s b g width width p stride scale n len) (λ e. omega arith) (λ e. omega arith)))
+
+glyph-drawn-past : (s : List ℕ) (b : BitmapData) (i : GlyphInfo) (len start stride scale : ℕ) → NotSix (saidDrawn (glyphDrawn s b i len start stride scale))
+unfolding glyphDrawn
+glyph-drawn-past s b i len start stride scale =
+    either (λ (r : Drawn). NotSix (saidDrawn r)) (noBitmap b (i .glyph .0)) (λ e. omega arith)
+    (shown-past s b (i .glyph .0) (i .width) (i .height) len (placeOf i start stride scale) stride scale)
+
+char-past : (i : GlyphInfo) (d : Drawn) → NotSix (saidDrawn d) → NotSix (saidChar (charOf i d))
+char-past i (Drawn.Rows r) h = λ e. omega arith
+char-past i (Drawn.Refused r) h = h
+
+with-info-past : (q : Prepared) (rest : GlyphInfo → CharDrawn) → NotSix (saidPrepared q) → ((i : GlyphInfo) → NotSix (saidChar (rest i))) → NotSix (saidChar (withInfo q rest))
+with-info-past (Prepared.Info i) rest h k = k i
+with-info-past (Prepared.Refused r) rest h k = h
+
+unpacked-past : (s : List ℕ) (b : BitmapData) (i : GlyphInfo) (len start stride : ℕ) → NotSix (saidUnpacked (glyphUnpacked s b i len start stride))
+unfolding glyphUnpacked unpackedAt
+unpacked-past s b i len start stride =
+    let P : Unpacked → Type 0 = λ r. NotSix (saidUnpacked r) in
+    let g = i .glyph .0 in
+    either P (noBitmap b g) (λ e. omega arith)
+    (either P (unreadable b) (λ e. omega arith)
+    (either P (rowsShort s b g (i .width) (i .height)) (λ e. omega arith)
+    (either P (pixelPast s b g (i .width) (wholeColumns (i .width)) (placeOf i start stride 1) stride 1 (i .height) len) (λ e. omega arith) (λ e. omega arith))))
+
 -- each call, for whatever is asked
 module _ (s : List ℕ) (rec : Record) where
   by-test : (a : Said) → (recordFits (length s) rec ≡ true → NotSix a) → (recordFits (length s) rec ≡ false → Six a) → Exactly s rec a
@@ -124,6 +194,51 @@ module _ (s : List ℕ) (rec : Record) where
   pub dimensions-six : Exactly s rec (saidSized (dimensions s rec))
   unfolding dimensions
   dimensions-six = by-test (saidSized (dimensions s rec)) (λ t. rw t (dimensions-past (boundsOf rec))) (λ t. rw t refl)
+
+  pub prep-six : (code : ℕ) → Exactly s rec (saidPrepared (prepChar s rec code))
+  unfolding prepChar
+  prep-six code = by-test (saidPrepared (prepChar s rec code)) (λ t. rw t (prepared-past s rec code)) (λ t. rw t refl)
+
+  pub bitmap-six : (g width height len start stride scale : ℕ) → Exactly s rec (saidDrawn (drawBitmap s rec g width height len start stride scale))
+  unfolding drawBitmap
+  bitmap-six g width height len start stride scale =
+      let P : Drawn → Type 0 = λ r. NotSix (saidDrawn r) in
+      by-test (saidDrawn (drawBitmap s rec g width height len start stride scale))
+      (λ t. rw t
+      (either P (okPlace start stride scale && okPair width height)
+      (either P (noBitmap (rec .bitmaps) g) (λ e. omega arith) (shown-past s (rec .bitmaps) g width height len start stride scale))
+      (λ e. omega arith)))
+      (λ t. rw t refl)
+
+  pub draw-glyph-six : (i : GlyphInfo) (len start stride scale : ℕ) → Exactly s rec (saidDrawn (drawGlyph s rec i len start stride scale))
+  unfolding drawGlyph
+  draw-glyph-six i len start stride scale =
+      by-test (saidDrawn (drawGlyph s rec i len start stride scale))
+      (λ t. rw t
+      (either (λ (r : Drawn). NotSix (saidDrawn r)) (okPlace start stride scale && okInfo i)
+      (glyph-drawn-past s (rec .bitmaps) i len start stride scale) (λ e. omega arith)))
+      (λ t. rw t refl)
+
+  pub draw-char-six : (code len start stride scale : ℕ) → Exactly s rec (saidChar (drawChar s rec code len start stride scale))
+  unfolding drawChar
+  draw-char-six code len start stride scale =
+      let rest : GlyphInfo → CharDrawn = λ i. charOf i (glyphDrawn s (rec .bitmaps) i len start stride scale) in
+      by-test (saidChar (drawChar s rec code len start stride scale))
+      (λ t. rw t
+      (either (λ (r : CharDrawn). NotSix (saidChar r)) (okPlace start stride scale)
+      (with-info-past (prepared s rec code) rest (prepared-past s rec code)
+      (λ i. char-past i (glyphDrawn s (rec .bitmaps) i len start stride scale) (glyph-drawn-past s (rec .bitmaps) i len start stride scale)))
+      (λ e. omega arith)))
+      (λ t. rw t refl)
+
+  pub unpack-six : (i : GlyphInfo) (len start stride : ℕ) → Exactly s rec (saidUnpacked (unpackGlyph s rec i len start stride))
+  unfolding unpackGlyph
+  unpack-six i len start stride =
+      by-test (saidUnpacked (unpackGlyph s rec i len start stride))
+      (λ t. rw t
+      (either (λ (r : Unpacked). NotSix (saidUnpacked r)) (okPlace start stride 1 && okInfo i)
+      (unpacked-past s (rec .bitmaps) i len start stride) (λ e. omega arith)))
+      (λ t. rw t refl)
 
   -- no call with a loaded record and its own bytes is refused 6
   pub loaded-never-six : (a : Said) → Exactly s rec a → loaded s ≡ Loaded.Font rec → NotSix a

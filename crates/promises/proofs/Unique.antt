@@ -4,6 +4,11 @@ use mathlib.Core.Path.{_≡_, sym, ap, _∙_}
 use mathlib.Core.List.{List}
 use Prim.Native.Nat.{ℕ}
 use denote.Ref.{now}
+use Rattle.bitmaps.specs.Draw.{shownLeaves}
+use Rattle.bitmaps.specs.Unpack.{unpackedLeaves}
+use Rattle.glyphs.specs.Glyph.{placeOf, glyphLeaves}
+use Rattle.glyphs.specs.Char.{charLeaves}
+use Rattle.glyphs.specs.Unpack.{unpackLeaves}
 use Rattle.hexline.specs.Fill.{hexLeaves}
 use Rattle.frames.specs.Put.{frameLeaves, refusedLeaves}
 use Rattle.promises.specs.Unique.{Fixes, FixesBytes, FixesLent}
@@ -103,6 +108,42 @@ use Rattle.frames.proofs.put_refused.Kinds as put-refused-kinds
 use Rattle.frames.proofs.put_refused.Reads as put-refused-reads
 use Rattle.dumper.proofs.print_dump.Kinds as print-dump-kinds
 use Rattle.dumper.proofs.print_dump.Reads as print-dump-reads
+use Rattle.outcome.proofs.ok_place.Kinds as ok-place-kinds
+use Rattle.outcome.proofs.ok_place.Reads as ok-place-reads
+use Rattle.outcome.proofs.ok_pair.Kinds as ok-pair-kinds
+use Rattle.outcome.proofs.ok_pair.Reads as ok-pair-reads
+use Rattle.outcome.proofs.shown_at.Kinds as shown-at-kinds
+use Rattle.outcome.proofs.shown_at.Reads as shown-at-reads
+use Rattle.outcome.proofs.unpacked_at.Kinds as unpacked-at-kinds
+use Rattle.outcome.proofs.unpacked_at.Reads as unpacked-at-reads
+use Rattle.outcome.proofs.bitmap_check.Kinds as bitmap-check-kinds
+use Rattle.outcome.proofs.bitmap_check.Reads as bitmap-check-reads
+use Rattle.place.proofs.char_info.Kinds as char-info-kinds
+use Rattle.place.proofs.char_info.Reads as char-info-reads
+use Rattle.place.proofs.prep_char.Kinds as prep-char-kinds
+use Rattle.place.proofs.prep_char.Reads as prep-char-reads
+use Rattle.glyphs.proofs.glyph_drawn.Kinds as glyph-drawn-kinds
+use Rattle.glyphs.proofs.glyph_drawn.Reads as glyph-drawn-reads
+use Rattle.glyphs.proofs.glyph_check.Kinds as glyph-check-kinds
+use Rattle.glyphs.proofs.glyph_check.Reads as glyph-check-reads
+use Rattle.glyphs.proofs.char_check.Kinds as char-check-kinds
+use Rattle.glyphs.proofs.char_check.Reads as char-check-reads
+use Rattle.glyphs.proofs.unpack_check.Kinds as unpack-check-kinds
+use Rattle.glyphs.proofs.unpack_check.Reads as unpack-check-reads
+use Rattle.paint.proofs.show_at.Kinds as show-at-kinds
+use Rattle.paint.proofs.show_at.Reads as show-at-reads
+use Rattle.paint.proofs.draw_bitmap.Kinds as draw-bitmap-kinds
+use Rattle.paint.proofs.draw_bitmap.Reads as draw-bitmap-reads
+use Rattle.unpack.proofs.unpack_at.Kinds as unpack-at-kinds
+use Rattle.unpack.proofs.unpack_at.Reads as unpack-at-reads
+use Rattle.glyphs.proofs.show_glyph.Kinds as show-glyph-kinds
+use Rattle.glyphs.proofs.show_glyph.Reads as show-glyph-reads
+use Rattle.glyphs.proofs.draw_glyph.Kinds as draw-glyph-kinds
+use Rattle.glyphs.proofs.draw_glyph.Reads as draw-glyph-reads
+use Rattle.glyphs.proofs.draw_char.Kinds as draw-char-kinds
+use Rattle.glyphs.proofs.draw_char.Reads as draw-char-reads
+use Rattle.glyphs.proofs.unpack_glyph.Kinds as unpack-glyph-kinds
+use Rattle.glyphs.proofs.unpack_glyph.Reads as unpack-glyph-reads
 
 pub byte-at-unique : Fixes 1 byte-at-kinds.ps byte-at-kinds.r byte-at-reads.Post
 byte-at-unique κs a r₁ r₂ x₁ x₂ p q = p ∙ sym q
@@ -253,3 +294,64 @@ put-frame-unique κs a r₁ r₂ x₁ x₂ p q =
 
 pub put-refused-unique : FixesLent 1 put-refused-kinds.ps put-refused-kinds.r put-refused-reads.Post (λ κs x. now (x .1 .0))
 put-refused-unique κs a r₁ r₂ x₁ x₂ p q = both-fixed (λ r. refusedLeaves (a .0) r (now (a .1 .0))) (p .0) (q .0) (p .1) (q .1)
+
+pub ok-place-unique : Fixes 0 ok-place-kinds.ps ok-place-kinds.r ok-place-reads.Post
+ok-place-unique κs a r₁ r₂ x₁ x₂ p q = p ∙ sym q
+
+pub ok-pair-unique : Fixes 0 ok-pair-kinds.ps ok-pair-kinds.r ok-pair-reads.Post
+ok-pair-unique κs a r₁ r₂ x₁ x₂ p q = p ∙ sym q
+
+pub shown-at-unique : Fixes 1 shown-at-kinds.ps shown-at-kinds.r shown-at-reads.Post
+shown-at-unique κs a r₁ r₂ x₁ x₂ p q = p ∙ sym q
+
+pub unpacked-at-unique : Fixes 1 unpacked-at-kinds.ps unpacked-at-kinds.r unpacked-at-reads.Post
+unpacked-at-unique κs a r₁ r₂ x₁ x₂ p q = p ∙ sym q
+
+pub bitmap-check-unique : Fixes 1 bitmap-check-kinds.ps bitmap-check-kinds.r bitmap-check-reads.Post
+bitmap-check-unique κs a r₁ r₂ x₁ x₂ p q = p ∙ sym q
+
+pub char-info-unique : Fixes 1 char-info-kinds.ps char-info-kinds.r char-info-reads.Post
+char-info-unique κs a r₁ r₂ x₁ x₂ p q = p ∙ sym q
+
+pub prep-char-unique : Fixes 1 prep-char-kinds.ps prep-char-kinds.r prep-char-reads.Post
+prep-char-unique κs a r₁ r₂ x₁ x₂ p q = p ∙ sym q
+
+pub glyph-drawn-unique : Fixes 1 glyph-drawn-kinds.ps glyph-drawn-kinds.r glyph-drawn-reads.Post
+glyph-drawn-unique κs a r₁ r₂ x₁ x₂ p q = p ∙ sym q
+
+pub glyph-check-unique : Fixes 1 glyph-check-kinds.ps glyph-check-kinds.r glyph-check-reads.Post
+glyph-check-unique κs a r₁ r₂ x₁ x₂ p q = p ∙ sym q
+
+pub char-check-unique : Fixes 1 char-check-kinds.ps char-check-kinds.r char-check-reads.Post
+char-check-unique κs a r₁ r₂ x₁ x₂ p q = p ∙ sym q
+
+pub unpack-check-unique : Fixes 1 unpack-check-kinds.ps unpack-check-kinds.r unpack-check-reads.Post
+unpack-check-unique κs a r₁ r₂ x₁ x₂ p q = p ∙ sym q
+
+pub show-at-unique : FixesLent 2 show-at-kinds.ps show-at-kinds.r show-at-reads.Post (λ κs x. now (x .1 .1 .1 .1 .1 .0))
+show-at-unique κs a r₁ r₂ x₁ x₂ p q =
+    both-fixed (λ r. shownLeaves (now (a .0)) (a .1 .0) (a .1 .1 .0 .0) (a .1 .1 .1 .0) (a .1 .1 .1 .1 .1 .1 .0) (a .1 .1 .1 .1 .1 .1 .1 .0) (a .1 .1 .1 .1 .1 .1 .1 .1 .0) (a .1 .1 .1 .1 .1 .1 .1 .1 .1 .0) r (now (a .1 .1 .1 .1 .1 .0))) (p .0) (q .0) (p .1) (q .1)
+
+pub draw-bitmap-unique : FixesLent 2 draw-bitmap-kinds.ps draw-bitmap-kinds.r draw-bitmap-reads.Post (λ κs x. now (x .1 .1 .1 .1 .1 .0))
+draw-bitmap-unique κs a r₁ r₂ x₁ x₂ p q =
+    both-fixed (λ r. shownLeaves (now (a .0)) (a .1 .0 .bitmaps) (a .1 .1 .0 .0) (a .1 .1 .1 .0) (a .1 .1 .1 .1 .1 .1 .0) (a .1 .1 .1 .1 .1 .1 .1 .0) (a .1 .1 .1 .1 .1 .1 .1 .1 .0) (a .1 .1 .1 .1 .1 .1 .1 .1 .1 .0) r (now (a .1 .1 .1 .1 .1 .0))) (p .0) (q .0) (p .1) (q .1)
+
+pub unpack-at-unique : FixesLent 2 unpack-at-kinds.ps unpack-at-kinds.r unpack-at-reads.Post (λ κs x. now (x .1 .1 .1 .1 .1 .0))
+unpack-at-unique κs a r₁ r₂ x₁ x₂ p q =
+    both-fixed (λ r. unpackedLeaves (now (a .0)) (a .1 .0) (a .1 .1 .0 .0) (a .1 .1 .1 .0) (a .1 .1 .1 .1 .1 .1 .0) (a .1 .1 .1 .1 .1 .1 .1 .0) r (now (a .1 .1 .1 .1 .1 .0))) (p .0) (q .0) (p .1) (q .1)
+
+pub show-glyph-unique : FixesLent 2 show-glyph-kinds.ps show-glyph-kinds.r show-glyph-reads.Post (λ κs x. now (x .1 .1 .1 .0))
+show-glyph-unique κs a r₁ r₂ x₁ x₂ p q =
+    both-fixed (λ r. shownLeaves (now (a .0)) (a .1 .0) (a .1 .1 .0 .glyph .0) (a .1 .1 .0 .width) (placeOf (a .1 .1 .0) (a .1 .1 .1 .1 .0) (a .1 .1 .1 .1 .1 .0) (a .1 .1 .1 .1 .1 .1 .0)) (a .1 .1 .1 .1 .1 .0) (a .1 .1 .1 .1 .1 .1 .0) (a .1 .1 .1 .1 .1 .1 .1 .0) r (now (a .1 .1 .1 .0))) (p .0) (q .0) (p .1) (q .1)
+
+pub draw-glyph-unique : FixesLent 2 draw-glyph-kinds.ps draw-glyph-kinds.r draw-glyph-reads.Post (λ κs x. now (x .1 .1 .1 .0))
+draw-glyph-unique κs a r₁ r₂ x₁ x₂ p q =
+    both-fixed (λ r. glyphLeaves (now (a .0)) (a .1 .0) (a .1 .1 .0) (a .1 .1 .1 .1 .0) (a .1 .1 .1 .1 .1 .0) (a .1 .1 .1 .1 .1 .1 .0) (a .1 .1 .1 .1 .1 .1 .1 .0) r (now (a .1 .1 .1 .0))) (p .0) (q .0) (p .1) (q .1)
+
+pub draw-char-unique : FixesLent 2 draw-char-kinds.ps draw-char-kinds.r draw-char-reads.Post (λ κs x. now (x .1 .1 .1 .0))
+draw-char-unique κs a r₁ r₂ x₁ x₂ p q =
+    both-fixed (λ r. charLeaves (now (a .0)) (a .1 .0) (a .1 .1 .1 .1 .0) (a .1 .1 .1 .1 .1 .0) (a .1 .1 .1 .1 .1 .1 .0) (a .1 .1 .1 .1 .1 .1 .1 .0) r (now (a .1 .1 .1 .0))) (p .0) (q .0) (p .1) (q .1)
+
+pub unpack-glyph-unique : FixesLent 2 unpack-glyph-kinds.ps unpack-glyph-kinds.r unpack-glyph-reads.Post (λ κs x. now (x .1 .1 .1 .0))
+unpack-glyph-unique κs a r₁ r₂ x₁ x₂ p q =
+    both-fixed (λ r. unpackLeaves (now (a .0)) (a .1 .0) (a .1 .1 .0) (a .1 .1 .1 .1 .0) (a .1 .1 .1 .1 .1 .0) r (now (a .1 .1 .1 .0))) (p .0) (q .0) (p .1) (q .1)

@@ -6,3 +6,4 @@ pub mod Unique
 pub mod SixExactly
 pub mod Passing
 pub mod Refusing
+pub mod Drawing

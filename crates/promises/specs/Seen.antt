@@ -12,8 +12,8 @@ use Rattle.load.specs.Load.{loaded}
 use Rattle.load.specs.declared.Loaded.{Loaded}
 use Rattle.lookup.specs.Lookup.{getGlyph, saidFound}
 use Rattle.metrics.specs.Measure.{getMetrics, saidMeasured}
-use Rattle.place.specs.Char.{drawChar, charLeaves, saidChar}
-use Rattle.place.specs.declared.CharDrawn.{CharDrawn}
+use Rattle.glyphs.specs.Char.{drawChar, charLeaves, saidChar}
+use Rattle.glyphs.specs.declared.CharDrawn.{CharDrawn}
 use Rattle.text.specs.Text.{drawString, stringLeaves, saidText}
 use Rattle.text.specs.declared.Wrap.{Wrap}
 use Rattle.text.specs.declared.Layout.{Layout}
