@@ -1,0 +1,200 @@
+#!/usr/bin/env python3
+"""Holds crates/draws/stdout, which the program must write, to what the model of document 01 says of each
+call in the files of crates/draws/data; and the files to what make.py makes.
+
+With --write the data, the arguments and the output are stored anew."""
+import collections
+import copy
+import os
+import subprocess
+import sys
+
+HERE = os.path.dirname(os.path.abspath(__file__))
+TESTS = os.path.dirname(HERE)
+PROGRAM = os.path.join(os.path.dirname(TESTS), "crates", "draws")
+sys.path.insert(0, TESTS)
+
+from definitions import model  # noqa: E402
+from draws import make  # noqa: E402
+
+# every number that each call can refuse with
+REFUSED = {
+    "draw_bitmap": [6, 12, 13, 14, 15, 16],
+    "draw_glyph": [6, 13, 14, 15, 16],
+    "draw_char": [6, 9, 10, 11, 13, 14, 15, 16],
+    "unpack_glyph": [6, 13, 14, 15, 16],
+    "prep_char": [6, 9, 10, 11],
+    "show_glyph": [13, 14, 16],
+}
+
+
+def read(*parts):
+    with open(os.path.join(PROGRAM, *parts), "rb") as f:
+        return f.read()
+
+
+def store(content, *parts):
+    with open(os.path.join(PROGRAM, *parts), "wb") as f:
+        f.write(content)
+
+
+def fail(text):
+    print(text)
+    sys.exit(1)
+
+
+# ---- what the model answers
+
+
+def changed(rec, changes):
+    made = copy.deepcopy(rec)
+    for path, value in changes.items():
+        *parts, last = path.split(".")
+        at = made
+        for part in parts:
+            at = at[part]
+        at[last] = value
+    return made
+
+
+def before(length):
+    return [100 + i % 7 for i in range(length)]
+
+
+class Length:
+    """a buffer of which the length alone is asked"""
+
+    def __init__(self, length):
+        self.length = length
+
+    def __len__(self):
+        return self.length
+
+
+def box_words(info):
+    return "glyph %d, width %d, height %d, pad top %d, pad left %d" % tuple(model.flat_info(info))
+
+
+def row_words(drawn, dropped):
+    return "drawn %d, dropped %d" % (drawn, dropped)
+
+
+def asked(b, rec, c, buf, colour):
+    """the answer in words, and the buffer after the call"""
+    call = c["call"]
+    place = [c.get(name) for name in ("start", "stride", "scale")]
+    if call == "draw_bitmap":
+        rows, new = model.draw_bitmap(b, rec, c["g"], c["width"], c["height"], buf, *place, colour)
+        return row_words(*rows), new
+    if call == "draw_glyph":
+        rows, new = model.draw_glyph(b, rec, c["info"], buf, *place, colour)
+        return row_words(*rows), new
+    if call == "draw_char":
+        (info, *rows), new = model.draw_char(b, rec, c["code"], buf, *place, colour)
+        return box_words(info) + ", " + row_words(*rows), new
+    if call == "unpack_glyph":
+        rows, new = model.unpack_glyph(b, rec, c["info"], buf, *place[:2])
+        return "rows %d" % rows, new
+    # show_glyph: as draw_glyph of a record that passes its test, but asks no limit
+    length = buf.length if isinstance(buf, Length) else len(buf)
+    seen = model.glyph_picture(b, rec, c["info"], length, *place)
+    if isinstance(seen, int):
+        raise model.Refused(seen)
+    return row_words(*seen[:2]), model.coloured(buf, seen[2], colour)
+
+
+def runs(places):
+    """as 0-2,4"""
+    made = []
+    for i in places:
+        if made and made[-1][1] == i - 1:
+            made[-1][1] = i
+        else:
+            made.append([i, i])
+    return ",".join("%d" % a if a == z else "%d-%d" % (a, z) for a, z in made) or "none"
+
+
+def dry(b, rec, c):
+    """the answer with a buffer that is longer than any"""
+    kept, model.coloured = model.coloured, lambda buf, pixels, colour: buf
+    try:
+        return asked(b, rec, c, Length(c["len"]), 0)[0]
+    finally:
+        model.coloured = kept
+
+
+def line(b, rec, c, colour):
+    """what is written of a call, and the number that it is refused with or 0"""
+    if c["call"] == "prep_char":
+        try:
+            return "prep_char: " + box_words(model.prep_char(b, rec, c["code"])), 0
+        except model.Refused as r:
+            return "prep_char: %s" % r, r.number
+    number, new, old = 0, [], []
+    try:
+        if c["len"] > make.MOST:
+            words = dry(b, rec, c)
+        else:
+            old = before(c["len"])
+            words, new = asked(b, rec, c, old, colour)
+    except model.Refused as r:
+        words, number = str(r), r.number
+    if c["len"] > make.MOST:
+        return "%s: dry run %s" % (c["call"], words), number
+    places = [i for i, (was, now) in enumerate(zip(old, new)) if was != now]
+    return "%s: %s; dry run %s; pixels %s" % (c["call"], words, words, runs(places)), number
+
+
+def lines(b, calls, seen):
+    """what is written of a font; counts what its calls answer"""
+    yield "font of %d bytes" % len(b)
+    try:
+        loaded = model.load(b)
+    except model.Refused as r:
+        yield str(r)
+        return
+    for k, c in enumerate(calls):
+        text, number = line(b, changed(loaded, c.get("rec", {})), c, make.colour(c, k))
+        seen[c["call"], number] += 1
+        yield text
+
+
+def output(inputs, seen):
+    made = []
+    for name, sections in inputs.items():
+        made.append("== " + name)
+        for b, calls in sections:
+            made += lines(b, calls, seen)
+    return "".join(text + "\n" for text in made).encode()
+
+
+def main():
+    inputs = make.inputs()
+    seen = collections.Counter()
+    want = {"args": "".join(name + "\n" for name in inputs).encode(), "stdout": output(inputs, seen)}
+    for call, numbers in REFUSED.items():
+        shown = sorted({number for (of, number) in seen if of == call})
+        if shown != [0] + numbers:
+            fail("%s answers %s" % (call, shown))
+    if sys.argv[1:] == ["--write"]:
+        subprocess.run([sys.executable, os.path.join(HERE, "make.py")], check=True)
+        for name, content in want.items():
+            store(content, name)
+    kept = sorted(os.listdir(os.path.join(PROGRAM, "data")))
+    if kept != sorted(inputs):
+        fail("crates/draws/data has %s, make.py makes %s" % (kept, sorted(inputs)))
+    for name, sections in inputs.items():
+        if read("data", name) != make.content(sections):
+            fail("crates/draws/data/%s is not what make.py makes" % name)
+    for name, content in want.items():
+        if read(name) != content:
+            fail("crates/draws/%s is not what the model says" % name)
+    for call, numbers in REFUSED.items():
+        print("%s: %d answers, refused %s" % (
+            call, seen[call, 0], ", ".join("%d: %d" % (number, seen[call, number]) for number in numbers)))
+    print("draws: %d calls in %d files are as made, and the output agrees with the model" % (
+        sum(seen.values()), len(inputs)))
+
+
+if __name__ == "__main__":
+    main()
