@@ -2,8 +2,10 @@
 use Prim.Native.Nat.{ℕ, zero, suc}
 use mathlib.Core.List.{List, [], _∷_}
 use lib.ListN.{length}
+use Rattle.reads.specs.Said.{Said, says, refuses}
 use Rattle.reads.specs.declared.Refusal.{Refusal}
 use Rattle.utf8.specs.Step.{stepAt}
+use Rattle.utf8.specs.declared.Checked.{Checked}
 use Rattle.utf8.specs.declared.Step.{Step}
 
 -- a character: the byte where it starts, and its code
@@ -33,3 +35,17 @@ decodeFrom (suc fuel) s i = afterStep (stepAt s i) i (λ next. decodeFrom fuel s
 -- a character takes a byte at least
 unfoldable pub decoded : List ℕ → Decoded
 decoded s = decodeFrom (suc (length s)) s 0
+
+-- the characters; none of a refused text
+abbrev pub charsOf : Decoded → List Char
+charsOf (chars cs) = cs
+charsOf (refused r) = []
+
+-- a text is UTF-8, or 19 with its place
+abbrev pub checked : Decoded → Checked
+checked (chars cs) = Checked.Whole
+checked (refused r) = Checked.Refused r
+
+abbrev pub saidChecked : Checked → Said
+saidChecked Checked.Whole = says []
+saidChecked (Checked.Refused r) = refuses r

@@ -1,3 +1,4 @@
 pub mod Table
 pub mod Step
 pub mod Decode
+pub mod WellFormed

@@ -1,6 +1,11 @@
 // Stepping through UTF-8.
+mod stepping;
+mod whole;
+
 use reads::CharCode;
 use reads::Refusal;
+pub use stepping::step_at;
+pub use whole::check;
 
 // The character at a place and the place after it; or the text's end; or 19 where none starts.
 pub enum Step {
@@ -15,4 +20,10 @@ pub struct Lead {
     pub size: u8,
     pub low: u8,
     pub high: u8,
+}
+
+// Whether a text is UTF-8; if not, 19 with the first byte at which no character starts.
+pub enum Checked {
+    Whole,
+    Refused(Refusal),
 }

@@ -1,0 +1,7 @@
+pub mod Leads
+pub mod Steps
+pub mod Lines
+pub mod Characters
+pub mod Walk
+pub mod Rest
+pub mod Accepts

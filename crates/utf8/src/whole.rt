@@ -1,0 +1,28 @@
+// A whole text.
+use crate::Checked;
+use crate::Step;
+use crate::stepping::step_at;
+use reads::CharCode;
+ghost use mathlib.Core.Path.{_≡_};
+ghost use Rattle.utf8.specs.Decode.{decoded, checked};
+
+// Whether a text is UTF-8. Refused: 19 with the first byte of the first ill-formed sequence.
+pub fn check(text: &[u8]) -> Checked
+    ensures { λ r. ⌜ r ≡ checked (decoded (now (text .entry))) ⌝ }
+{
+    let mut i: usize = 0;
+    loop {
+        let here = step_at(text, i);
+        match here {
+            Step::Char(code, next) => {
+                i = next;
+            }
+            Step::End => {
+                return Checked::Whole;
+            }
+            Step::Refused(r) => {
+                return Checked::Refused(r);
+            }
+        }
+    }
+}
