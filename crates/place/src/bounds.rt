@@ -59,7 +59,7 @@ pub(crate) fn natural_i32(z: i32) -> u16
 }
 
 // The bounds' height and width, or 11.
-fn bounds_sized(m: MetricsUnpacked) -> Sized
+pub fn bounds_sized(m: MetricsUnpacked) -> Sized
     ensures { λ r. ⌜ r ≡ boundsSized m ⌝ }
 {
     if bounds_hold(m) {

@@ -3,6 +3,7 @@ mod bounds;
 mod boxes;
 
 pub use bounds::bounds_hold;
+pub use bounds::bounds_sized;
 pub use bounds::dimensions;
 pub use boxes::char_info;
 pub use boxes::info_of;

@@ -13,10 +13,11 @@ use Rattle.bitmaps.specs.Paint.{painted}
 use Rattle.bitmaps.specs.Limits.{okPlace}
 use Rattle.bitmaps.specs.declared.Drawn.{Drawn}
 use Rattle.place.specs.Bounds.{boundsHold, boundsOf}
-use Rattle.utf8.specs.Decode.{Char, Decoded, chars, refused, decoded}
+use Rattle.utf8.specs.Decode.{Char, Decoded, chars, refused, decoded, charsOf}
 use Rattle.text.specs.Walk.{origin, lineHeight, placed, placedDrawn, penAfter, inPlaced}
 use Rattle.text.specs.declared.Layout.{Layout}
 use Rattle.text.specs.declared.Pen.{Pen}
+use Rattle.text.specs.declared.Ready.{Ready}
 use Rattle.text.specs.declared.TextDrawn.{TextDrawn}
 
 -- go on with the rows that a character dropped, or refuse at the byte where it starts
@@ -39,25 +40,29 @@ inText s rec lay len (c ∷ cs) pen k =
     let p = placed s rec lay (c .code) pen in
     inPlaced s rec lay len p k || inText s rec lay len cs (penAfter lay p pen) k
 
--- the characters of a text of at most 65,535 bytes: 19, then 11 for the bounds
-abbrev pub textOf : List ℕ → Record → Layout → ℕ → Decoded → TextDrawn
-textOf s rec lay len (chars cs) =
-    cond (boundsHold (boundsOf rec)) (textFrom s rec lay len cs origin 0) (TextDrawn.Refused (refusal 11 0))
-textOf s rec lay len (refused r) = TextDrawn.Refused r
+-- 19, then 11 for the bounds; else the line height
+abbrev pub readyText : Record → Layout → Decoded → Ready
+readyText rec lay (chars cs) =
+    cond (boundsHold (boundsOf rec)) (Ready.Line (lineHeight rec (lay .scale))) (Ready.Refused (refusal 11 0))
+readyText rec lay (refused r) = Ready.Refused r
 
--- `draw_string`: 6, 15, 19, 11, then per character
-unfoldable pub drawString : List ℕ → Record → List ℕ → ℕ → Layout → TextDrawn
-drawString s rec text len lay =
+-- what is tested before the first character: 6, 15, 19 ("text too long or not UTF-8"), 11
+unfoldable pub ready : List ℕ → Record → List ℕ → Layout → Ready
+ready s rec text lay =
     cond (recordFits (length s) rec)
     (cond (okPlace (lay .start) (lay .stride) (lay .scale))
-    (cond (leb (length text) 65535) (textOf s rec lay len (decoded text))
-    (TextDrawn.Refused (refusal 19 0)))
-    (TextDrawn.Refused (refusal 15 0)))
-    (TextDrawn.Refused (refusal 6 0))
+    (cond (leb (length text) 65535) (readyText rec lay (decoded text))
+    (Ready.Refused (refusal 19 0)))
+    (Ready.Refused (refusal 15 0)))
+    (Ready.Refused (refusal 6 0))
 
-abbrev pub charsOf : Decoded → List Char
-charsOf (chars cs) = cs
-charsOf (refused r) = []
+abbrev pub whenReady : Ready → TextDrawn → TextDrawn
+whenReady (Ready.Line line) answer = answer
+whenReady (Ready.Refused r) answer = TextDrawn.Refused r
+
+-- `draw_string`: "6, 15, 19, then the font's bounds [...], then per character"
+unfoldable pub drawString : List ℕ → Record → List ℕ → ℕ → Layout → TextDrawn
+drawString s rec text len lay = whenReady (ready s rec text lay) (textFrom s rec lay len (charsOf (decoded text)) origin 0)
 
 -- what `draw_string` leaves in the buffer
 abbrev pub stringLeaves : List ℕ → Record → List ℕ → Layout → ℕ → TextDrawn → List ℕ → List ℕ

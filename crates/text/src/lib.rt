@@ -1,6 +1,14 @@
-// Texts: the pen walks over the characters, and each glyph is drawn where the pen stands.
+// Texts: the pen walks over the characters, and each glyph is drawn where the pen stands. The walk is
+// made twice, so that nothing is coloured where a later character is refused.
+mod answer;
+mod ink;
+mod string;
+mod walk;
+
 use place::GlyphInfo;
 use reads::Refusal;
+pub use string::draw_string;
+pub use string::text_check;
 
 // Where a line ends: before a glyph that would reach this many pixels, or nowhere.
 pub enum Wrap {
@@ -20,6 +28,12 @@ pub struct Layout {
 pub struct Pen {
     pub x: usize,
     pub y: usize,
+}
+
+// The line height of a text that can be walked over, or why none can be.
+pub enum Ready {
+    Line(usize),
+    Refused(Refusal),
 }
 
 // What a character does: moves the pen, or has its glyph drawn where the pen then stands, or is

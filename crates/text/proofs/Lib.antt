@@ -1,0 +1,6 @@
+pub mod PenBounds
+pub mod Placing
+pub mod Passes
+pub mod Turns
+pub mod ShownGlyph
+pub mod BeforeFirst

@@ -1,0 +1,52 @@
+-- One turn of each pass over a text: the whole answer is that of the characters that are left, and the whole colouring is colouring what
+-- was placed and then what is left.
+use Prim.Native.Nat.{ℕ, _+_}
+use mathlib.Core.Path.{_≡_, refl, ap, _∙_}
+use mathlib.Core.List.{List, [], _∷_}
+use Rattle.reads.specs.Said.{refusal}
+use Rattle.reads.specs.declared.Refusal.{Refusal}
+use Rattle.tables.specs.declared.Record.{Record}
+use Rattle.bitmaps.specs.Paint.{painted}
+use Rattle.bitmaps.specs.declared.Drawn.{Drawn}
+use Rattle.bitmaps.specs.declared.Rows.{Rows}
+use Rattle.bitmaps.proofs.Painting.{painted-none, painted-or}
+use Rattle.utf8.specs.Decode.{Char}
+use Rattle.text.specs.Walk.{lineHeight, placed, placedDrawn, penAfter, inPlaced}
+use Rattle.text.specs.Text.{afterChar, textFrom, inText}
+use Rattle.text.specs.declared.Layout.{Layout}
+use Rattle.text.specs.declared.Pen.{Pen}
+use Rattle.text.specs.declared.Placed.{Placed}
+use Rattle.text.specs.declared.TextDrawn.{TextDrawn}
+
+module _ (s : List ℕ) (rec : Record) (lay : Layout) (len : ℕ) (cs : List Char) (pen : Pen) where
+  -- no character is left
+  pub answer-end : (dropped : ℕ) → cs ≡ []
+      → textFrom s rec lay len cs pen dropped ≡ TextDrawn.Done (record { height = pen .y + lineHeight rec (lay .scale); dropped = dropped })
+  unfolding textFrom
+  answer-end dropped e = rw e refl
+
+  pub ink-end : (colour : ℕ) (old : List ℕ) → cs ≡ [] → painted (inText s rec lay len cs pen) colour old ≡ old
+  unfolding inText
+  ink-end colour old e = rw e (painted-none (λ k. inText s rec lay len [] pen k) colour old (λ i h. refl))
+
+  -- a character was placed so
+  module _ (i code : ℕ) (rest : List Char) (e : cs ≡ record { byte = i; code = code } ∷ rest) (p : Placed) (is : p ≡ placed s rec lay code pen) where
+    turn : (dropped : ℕ) → textFrom s rec lay len cs pen dropped
+        ≡ afterChar (placedDrawn s rec lay len p) i (λ more. textFrom s rec lay len rest (penAfter lay p pen) (dropped + more))
+    unfolding textFrom
+    turn dropped = rw (e, is) refl
+
+    pub answer-on : (dropped : ℕ) (r : Rows) → placedDrawn s rec lay len p ≡ Drawn.Rows r
+        → textFrom s rec lay len cs pen dropped ≡ textFrom s rec lay len rest (penAfter lay p pen) (dropped + r .dropped)
+    answer-on dropped r d =
+        turn dropped ∙ ap (λ (x : Drawn). afterChar x i (λ more. textFrom s rec lay len rest (penAfter lay p pen) (dropped + more))) d
+
+    pub answer-stop : (dropped : ℕ) (r : Refusal) → placedDrawn s rec lay len p ≡ Drawn.Refused r
+        → textFrom s rec lay len cs pen dropped ≡ TextDrawn.Refused (refusal (r .number) i)
+    answer-stop dropped r d =
+        turn dropped ∙ ap (λ (x : Drawn). afterChar x i (λ more. textFrom s rec lay len rest (penAfter lay p pen) (dropped + more))) d
+
+    pub ink-on : (colour : ℕ) (old : List ℕ)
+        → painted (inText s rec lay len cs pen) colour old ≡ painted (inText s rec lay len rest (penAfter lay p pen)) colour (painted (inPlaced s rec lay len p) colour old)
+    unfolding inText
+    ink-on colour old = rw (e, is) (painted-or (inPlaced s rec lay len (placed s rec lay code pen)) (inText s rec lay len rest (penAfter lay (placed s rec lay code pen) pen)) colour old)

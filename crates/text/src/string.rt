@@ -1,0 +1,130 @@
+// Drawing a text.
+use crate::Layout;
+use crate::Ready;
+use crate::TextDrawn;
+use crate::TextRows;
+use crate::Wrap;
+use crate::answer::text_rows;
+use crate::ink::show_text;
+use outcome::ok_place;
+use place::Extent;
+use place::Sized;
+use place::bounds_sized;
+use reads::Refusal;
+use tables::Record;
+use tables::record_fits;
+use utf8::Checked;
+use utf8::check;
+ghost use mathlib.Core.Path.{_≡_};
+ghost use lib.ListN.{length};
+ghost use Rattle.text.specs.Text.{ready, drawString, stringLeaves};
+
+// The line height, or what refuses the text before its first character: 6, 15, 19, or 11 for the bounds.
+fn ready_for(bytes: &[u8], rec: Record, text: &[u8], lay: Layout) -> Ready
+    ensures { λ r. ⌜ r ≡ ready (now (bytes .entry)) rec (now (text .entry)) lay ⌝ }
+{
+    if !record_fits(bytes.len(), rec) {
+        return Ready::Refused(Refusal {
+            number: 6,
+            place: 0,
+        });
+    }
+    if !ok_place(lay.start, lay.stride, lay.scale) {
+        return Ready::Refused(Refusal {
+            number: 15,
+            place: 0,
+        });
+    }
+    if 65535 < text.len() {
+        return Ready::Refused(Refusal {
+            number: 19,
+            place: 0,
+        });
+    }
+    let checked = check(text);
+    match checked {
+        Checked::Whole => {
+            let size = bounds_sized(rec.accel.maxbounds);
+            match size {
+                Sized::Dimensions(d) => Ready::Line(lay.scale * d.height),
+                Sized::Refused(r) => Ready::Refused(r),
+            }
+        }
+        Checked::Refused(r) => Ready::Refused(r),
+    }
+}
+
+// What `draw_string` answers with a buffer of `len` pixels, refusals, places and their order too: a dry
+// run.
+pub fn text_check(
+    bytes: &[u8],
+    rec: Record,
+    text: &[u8],
+    len: usize,
+    start: usize,
+    wrap: Wrap,
+    stride: usize,
+    scale: usize,
+) -> TextDrawn
+    ensures { λ r. ⌜ r ≡ drawString (now (bytes .entry)) rec (now (text .entry)) len (record { start = start; wrap = wrap; stride = stride; scale = scale }) ⌝ }
+{
+    let lay = Layout {
+        start,
+        wrap,
+        stride,
+        scale,
+    };
+    let ready = ready_for(bytes, rec, text, lay);
+    match ready {
+        Ready::Line(line) => text_rows(bytes, rec, lay, line, len, text),
+        Ready::Refused(r) => TextDrawn::Refused(r),
+    }
+}
+
+// Draws a text from `start` on, and answers its height in pixels and how many rows of its glyphs were cut
+// off at the buffer's end: 0 says that the page is complete. Each glyph is drawn where the pen stands, as
+// `glyphs::draw_char` draws it, and moves the pen right by its width. A newline, and a glyph that would
+// reach `wrap` pixels from the line's beginning, move the pen to the next line first; a carriage return and
+// a code without a glyph are skipped; a glyph without a bitmap draws nothing but takes its place.
+//
+// Refused, and then no pixel is coloured: 6 for a record that fails its test with these bytes, 15 for a
+// start, stride or scale outside its limits (`outcome::ok_place`), both with place 0; 19 for a text over
+// 65,535 bytes with place 0, and for one that is not UTF-8 with the first byte of the first ill-formed
+// sequence; 11 with place 0 where the bounds' ascent or width is below 0, or their ascent + descent is not
+// 0 to 32,767. Then the first character with a refusal decides, and the place is the byte where it starts:
+// 10 for a glyph without metrics, 11 for metrics out of range, 13, 14 and 16 as `glyphs::draw_char`.
+pub fn draw_string(
+    bytes: &[u8],
+    rec: Record,
+    text: &[u8],
+    buf: &mut [u32],
+    start: usize,
+    wrap: Wrap,
+    stride: usize,
+    scale: usize,
+    colour: u32,
+) -> TextDrawn
+    ensures { λ r. ⌜ r ≡ drawString (now (bytes .entry)) rec (now (text .entry)) (length (now (buf .entry))) (record { start = start; wrap = wrap; stride = stride; scale = scale }) ⌝ }
+    ensures { λ r. ⌜ now (buf .exit) ≡ stringLeaves (now (bytes .entry)) rec (now (text .entry)) (record { start = start; wrap = wrap; stride = stride; scale = scale }) colour r (now (buf .entry)) ⌝ }
+{
+    let lay = Layout {
+        start,
+        wrap,
+        stride,
+        scale,
+    };
+    let ready = ready_for(bytes, rec, text, lay);
+    match ready {
+        Ready::Line(line) => {
+            let answer = text_rows(bytes, rec, lay, line, buf.len(), text);
+            match answer {
+                TextDrawn::Done(rows) => {
+                    show_text(bytes, rec, lay, line, &mut *buf, text, colour);
+                    TextDrawn::Done(rows)
+                }
+                TextDrawn::Refused(r) => TextDrawn::Refused(r),
+            }
+        }
+        Ready::Refused(r) => TextDrawn::Refused(r),
+    }
+}

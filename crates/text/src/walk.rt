@@ -1,0 +1,121 @@
+// The pen's walk: what a character does with the pen, and where the pen goes then.
+use crate::Layout;
+use crate::Pen;
+use crate::Placed;
+use crate::Wrap;
+use lookup::Found;
+use lookup::glyph_of;
+use place::GlyphInfo;
+use place::Prepared;
+use place::info_of;
+use reads::CharCode;
+use reads::GlyphIndex;
+use tables::Record;
+ghost use mathlib.Core.Path.{_≡_};
+ghost use Prim.Native.Nat.{_≤_};
+ghost use Rattle.place.specs.Info.{infoOf};
+ghost use Rattle.text.specs.Walk.{newline, advanceOf, reaches, wrapped, placeInfo, placed, spot, penAfter};
+ghost use Rattle.text.specs.Within.{Settled, PenIn, PlacedIn, Moved, placedPen};
+
+fn newline(line: usize, pen: Pen) -> Pen
+    requires { ⌜ (line ≤ 4194240) × PenIn 65535 pen ⌝ }
+    ensures { λ r. ⌜ r ≡ newline line pen ⌝ }
+{
+    Pen {
+        x: 0,
+        y: pen.y + line,
+    }
+}
+
+// How far a glyph moves the pen.
+fn advance_of(lay: Layout, info: GlyphInfo) -> usize
+    requires { ⌜ lay .scale ≤ 64 ⌝ }
+    ensures { λ r. ⌜ r ≡ advanceOf lay info ⌝ }
+{
+    info.width as usize * lay.scale
+}
+
+fn reaches(wrap: Wrap, x: usize) -> bool
+    ensures { λ r. ⌜ r ≡ reaches wrap x ⌝ }
+{
+    match wrap {
+        Wrap::At(w) => w <= x as u64,
+        Wrap::Never => false,
+    }
+}
+
+// The pen after a newline, if this glyph would reach the line's end, and else as it stands.
+fn wrapped(rec: Record, lay: Layout, line: usize, info: GlyphInfo, pen: Pen) -> Pen
+    requires { ⌜ Settled rec lay line ⌝ }
+    requires { ⌜ PenIn 65535 pen ⌝ }
+    ensures { λ r. ⌜ r ≡ wrapped rec lay info pen ⌝ }
+{
+    let wrap = lay.wrap;
+    if reaches(wrap, pen.x + advance_of(lay, info)) {
+        return newline(line, pen);
+    }
+    pen
+}
+
+fn place_glyph(s: &[u8], rec: Record, lay: Layout, line: usize, g: GlyphIndex, pen: Pen) -> Placed
+    requires { ⌜ Settled rec lay line ⌝ }
+    requires { ⌜ PenIn 65535 pen ⌝ }
+    ensures { λ r. ⌜ r ≡ placeInfo rec lay pen (infoOf (now (s .entry)) rec g) ⌝ }
+{
+    let info = info_of(s, rec, g);
+    match info {
+        Prepared::Info(i) => Placed::Glyph(wrapped(rec, lay, line, i, pen), i),
+        Prepared::Refused(r) => Placed::Refused(r.number),
+    }
+}
+
+// What a character does with the pen here: both passes over a text ask this of each character.
+pub(crate) fn placed_at(
+    s: &[u8],
+    rec: Record,
+    lay: Layout,
+    line: usize,
+    code: CharCode,
+    pen: Pen,
+) -> Placed
+    requires { ⌜ Settled rec lay line ⌝ }
+    requires { ⌜ PenIn 65535 pen ⌝ }
+    ensures { λ r. ⌜ r ≡ placed (now (s .entry)) rec lay (code .0) pen ⌝ }
+{
+    if code.0 == 13 {
+        return Placed::Skip(pen);
+    }
+    if code.0 == 10 {
+        return Placed::Skip(newline(line, pen));
+    }
+    let found = glyph_of(s, rec.codes, code);
+    match found {
+        Found::Glyph(g) => place_glyph(s, rec, lay, line, g, pen),
+        Found::Refused(r) => Placed::Skip(pen),
+    }
+}
+
+// Where a pen stands in the buffer.
+pub(crate) fn spot(lay: Layout, pen: Pen) -> usize
+    requires { ⌜ (lay .start ≤ 2147483647) × (lay .stride ≤ 65535) × PenIn 65536 pen ⌝ }
+    ensures { λ r. ⌜ r ≡ spot lay pen ⌝ }
+{
+    lay.start + pen.y * lay.stride + pen.x
+}
+
+// The pen after what was placed.
+pub(crate) fn pen_after(lay: Layout, placed: Placed, old: Pen) -> Pen
+    requires { ⌜ lay .scale ≤ 64 ⌝ }
+    requires { ⌜ PlacedIn 65536 placed ⌝ }
+    ensures { λ r. ⌜ r ≡ penAfter lay placed old ⌝ }
+    ensures { λ r. ⌜ Moved (placedPen placed old) r ⌝ }
+{
+    match placed {
+        Placed::Skip(pen) => pen,
+        Placed::Glyph(pen, info) => Pen {
+            x: pen.x + advance_of(lay, info),
+            y: pen.y,
+        },
+        Placed::Refused(number) => old,
+    }
+}
