@@ -1,29 +1,28 @@
 -- Every call that draws keeps to what `Keeps` says.
-use Prim.Native.Nat.{ℕ, _+_, _*_, _≤_, _<_}
+use Prim.Native.Nat.{ℕ, _≤_}
 use mathlib.Core.Path.{_≡_, refl, sym, ap, _∙_}
 use mathlib.Core.Bool.{Bool, true, false, cond, _&&_}
-use mathlib.Core.List.{List, _++_}
+use mathlib.Core.List.{List}
 use native.Mathlib.Omega.{arith}
 use lib.Dec.{eqb}
-use lib.ListN.{length, getD}
-use borrow.Author.Tests.{eqb-true, eq-eqb}
+use lib.ListN.{length}
+use borrow.Author.Tests.{eqb-true}
 use Rattle.reads.specs.Said.{refusal}
-use Rattle.reads.proofs.Tests.{never, split}
+use Rattle.reads.proofs.Tests.{never}
 use Rattle.tables.specs.Fits.{recordFits}
 use Rattle.tables.specs.declared.BitmapData.{BitmapData}
 use Rattle.tables.specs.declared.Record.{Record}
 use Rattle.bitmaps.specs.Paint.{painted}
 use Rattle.bitmaps.specs.Limits.{okPlace, okPair}
 use Rattle.bitmaps.specs.Cut.{drawnRows}
-use Rattle.bitmaps.specs.Dots.{someDot}
 use Rattle.bitmaps.specs.Picture.{noBitmap, glyphBit}
 use Rattle.bitmaps.specs.Draw.{rowsOf, shownAt, inGlyph, shownLeaves, drawBitmap, saidDrawn}
 use Rattle.bitmaps.specs.Unpack.{wholeColumns, unpackedAt, inUnpacked, saidUnpacked}
 use Rattle.bitmaps.specs.declared.Rows.{Rows}
 use Rattle.bitmaps.specs.declared.Drawn.{Drawn}
 use Rattle.bitmaps.specs.declared.Unpacked.{Unpacked}
-use Rattle.bitmaps.proofs.Painting.{length-painted, getD-painted, painted-none, painted-twice, painted-longer}
-use Rattle.bitmaps.proofs.Pixels.{dot-true, dot-found, none-beyond}
+use Rattle.bitmaps.proofs.Painting.{painted-none}
+use Rattle.bitmaps.proofs.Pixels.{none-beyond}
 use Rattle.bitmaps.proofs.CutRule.{drawn-within}
 use Rattle.bitmaps.proofs.NoDots.{none-found}
 use Rattle.outcome.proofs.Answered.{shown-rows, unpacked-rows}
@@ -34,86 +33,9 @@ use Rattle.glyphs.specs.Glyph.{placeOf, okInfo, nothingDrawn, glyphDrawn, inInf
 use Rattle.glyphs.specs.Char.{withInfo, charOf, drawChar, saidChar}
 use Rattle.glyphs.specs.Unpack.{glyphUnpacked, unpackGlyph}
 use Rattle.glyphs.specs.declared.CharDrawn.{CharDrawn}
-use Rattle.promises.specs.Drawing.{Coloured, Call, after, Keeps, wholeDrawn, wholeChar, wholeUnpacked, bitmapColoured, charColoured, bitmapCall, glyphCall, charCall, unpackCall}
-
--- a call that colours by a rule: none on a refusal, none beyond the buffer, and one answer whenever no row is cut
-module _ {A : Type 0} (call : Call A) (rule : A → ℕ → Bool)
-    (is : (a : A) (old : List ℕ) → call .leaves a old ≡ painted (rule a) (call .colour) old)
-    (lit : (a : A) (i : ℕ) → call .coloured a i → rule a i ≡ true)
-    (found : (a : A) (i : ℕ) → rule a i ≡ true → call .coloured a i)
-    (none : (a : A) → (call .said a .number ≡ 0 → ⊥) → (i : ℕ) → rule a i ≡ false)
-    (inside : (len i : ℕ) → len ≤ i → rule (call .answer len) i ≡ false)
-    (same : (len more : ℕ) → call .whole (call .answer len) ≡ true → call .whole (call .answer more) ≡ true → call .answer more ≡ call .answer len)
-  where
-    kept : (old : List ℕ) → length (after call old) ≡ length old
-    kept old = ap length (is (call .answer (length old)) old) ∙ length-painted (rule (call .answer (length old))) (call .colour) old
-
-    -- the pixel at i is the colour or the old value, as the rule says
-    pixel : (old : List ℕ) (i : ℕ) (t : Bool) → i < length old → rule (call .answer (length old)) i ≡ t
-        → getD (after call old) i 0 ≡ cond t (call .colour) (getD old i 0)
-    pixel old i t h e =
-        let a = call .answer (length old) in
-        ap (λ (z : List ℕ). getD z i 0) (is a old) ∙ getD-painted (rule a) (call .colour) old i h ∙ ap (λ (x : Bool). cond x (call .colour) (getD old i 0)) e
-
-    by-rule : Keeps call
-    by-rule = record {
-      length-kept = kept;
-      refusal-leaves = λ old e. let a = call .answer (length old) in is a old ∙ painted-none (rule a) (call .colour) old (λ i h. none a e i);
-      pixel-coloured = λ old i h l. pixel old i true h (lit (call .answer (length old)) i l);
-      pixel-kept = λ old i h no-lit.
-          let a = call .answer (length old) in
-          split (rule a i) (λ t. absurd (no-lit (found a i t))) (λ t. pixel old i false h t);
-      twice-once = λ old.
-          let a = call .answer (length old) in
-          let again = ap (call .answer) (kept old) in (
-            again,
-            ap (λ (x : A). call .leaves x (after call old)) again
-                ∙ is a (after call old)
-                ∙ ap (painted (rule a) (call .colour)) (is a old)
-                ∙ painted-twice (rule a) (call .colour) old
-                ∙ sym (is a old),
-          );
-      longer-same = λ old more e f.
-          let a = call .answer (length old) in
-          ap (λ (x : A). call .leaves x (old ++ more)) (same (length old) (length (old ++ more)) e f)
-          ∙ is a (old ++ more)
-          ∙ painted-longer (rule a) (call .colour) old more (inside (length old))
-          ∙ ap (λ (z : List ℕ). z ++ more) (sym (is a old));
-    }
-
--- ---- a pixel, found by a search and in plain logic
-
-module _ (bit : ℕ → ℕ → Bool) (p stride scale width n i : ℕ) where
-  lit-dot : Coloured bit p stride scale width n i → someDot bit p stride scale width n (λ j. eqb i j) ≡ true
-  lit-dot d =
-      dot-true bit p stride scale width n (λ j. eqb i j) (record {
-        row = d .r;
-        column = d .c;
-        down = d .a;
-        right = d .b;
-        row-in = d .r-below;
-        column-in = d .c-below;
-        down-in = d .a-below;
-        right-in = d .b-below;
-        is-set = d .is-set;
-        passes = eq-eqb i (p + d .r * stride * scale + d .c * scale + d .a * stride + d .b) (d .is-there);
-      })
-
-  found-dot : someDot bit p stride scale width n (λ j. eqb i j) ≡ true → Coloured bit p stride scale width n i
-  found-dot e =
-      let d = dot-found bit p stride scale width n (λ j. eqb i j) e in
-      record {
-        r = d .row;
-        c = d .column;
-        a = d .down;
-        b = d .right;
-        r-below = d .row-in;
-        c-below = d .column-in;
-        a-below = d .down-in;
-        b-below = d .right-in;
-        is-set = d .is-set;
-        is-there = eqb-true i (p + d .row * stride * scale + d .column * scale + d .down * stride + d .right) (d .passes);
-      }
+use Rattle.promises.specs.Drawing.{Keeps, wholeDrawn, wholeChar, wholeUnpacked, bitmapColoured, charColoured, bitmapCall, glyphCall, charCall, unpackCall}
+use Rattle.promises.proofs.ByRule.{by-rule}
+use Rattle.promises.proofs.Coloured.{lit-dot, found-dot}
 
 -- ---- a bitmap at a place
 
@@ -138,7 +60,7 @@ module _ (s : List ℕ) (b : BitmapData) (g width p stride scale : ℕ) where
   rows-painted colour (Drawn.Rows r) old = refl
   rows-painted colour (Drawn.Refused r) old = sym (painted-none (λ i. false) colour old (λ i h. refl))
 
-  nothing-inside : (i : ℕ) → inGlyph s b g width p stride scale 0 i ≡ false
+  pub nothing-inside : (i : ℕ) → inGlyph s b g width p stride scale 0 i ≡ false
   nothing-inside i = none-found (glyphBit s b g width) p stride scale width 0 (λ r c a h l m. omega arith) (λ j. eqb i j)
 
   shown-inside : (height len : ℕ) (r : Rows) → shownAt s b g width height len p stride scale ≡ Drawn.Rows r
@@ -163,7 +85,7 @@ module _ (s : List ℕ) (b : BitmapData) (i : GlyphInfo) (start stride scale : �
   abbrev shown : ℕ → Drawn
   shown len = shownAt s b (i .glyph .0) (i .width) (i .height) len spot stride scale
 
-  glyph-inside : (len : ℕ) (r : Rows) → glyphDrawn s b i len start stride scale ≡ Drawn.Rows r
+  pub glyph-inside : (len : ℕ) (r : Rows) → glyphDrawn s b i len start stride scale ≡ Drawn.Rows r
       → (k : ℕ) → len ≤ k → inInfo s b i start stride scale (r .drawn) k ≡ false
   unfolding glyphDrawn
   glyph-inside len r e k h = by (noBitmap b (i .glyph .0)) e
@@ -173,10 +95,10 @@ module _ (s : List ℕ) (b : BitmapData) (i : GlyphInfo) (start stride scale : �
       by false f = shown-inside s b (i .glyph .0) (i .width) spot stride scale (i .height) len r f k h
 
   -- the answer where no row is cut
-  abbrev allGlyph : Drawn
+  abbrev pub allGlyph : Drawn
   allGlyph = cond (noBitmap b (i .glyph .0)) nothingDrawn (Drawn.Rows (rowsOf (i .height) (i .height)))
 
-  glyph-whole : (len : ℕ) (r : Rows) → glyphDrawn s b i len start stride scale ≡ Drawn.Rows r → eqb (r .dropped) 0 ≡ true → Drawn.Rows r ≡ allGlyph
+  pub glyph-whole : (len : ℕ) (r : Rows) → glyphDrawn s b i len start stride scale ≡ Drawn.Rows r → eqb (r .dropped) 0 ≡ true → Drawn.Rows r ≡ allGlyph
   unfolding glyphDrawn
   glyph-whole len r e t = by (noBitmap b (i .glyph .0)) e
     where

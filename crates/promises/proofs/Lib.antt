@@ -4,4 +4,11 @@ mod Unique
 mod RecordTest
 mod Vetting
 mod VettingRefuses
+mod Coloured
+mod ByRule
 mod Drawing
+mod PassedChars
+mod TextGlyphs
+mod TextHeight
+mod Texts
+mod TextKeeps

@@ -25,7 +25,7 @@ use Rattle.utf8.specs.Table.{find, leadOf, table as leads}
 use Rattle.utf8.specs.Step.{longer, stepAt}
 use Rattle.utf8.specs.Decode.{decodeFrom, decoded}
 use Rattle.text.specs.Walk.{wrapped, placed, placedDrawn}
-use Rattle.text.specs.Text.{textFrom, inText, drawString}
+use Rattle.text.specs.Text.{textFrom, inText, ready, drawString}
 use Rattle.hexline.specs.Lines.{linesOf, digitOf, pairs, allPairs, hexBytes}
 use Rattle.promises.specs.Typed.{typed, typedLines}
 use Rattle.promises.specs.FontF.{linesF, F}
@@ -38,5 +38,5 @@ unfolding table seen asked F linesF typed typedLines hexBytes linesOf digitOf di
     bitmapsAt codesTable codesAt namesTable namesAt propsFit metricsFit bitmapsFit codesFit namesFit recordFits finished
     tableAt entryOf entryAt entriesFrom loaded slotOf glyphOf getGlyph metricsOf getMetrics some painted column bitAt bytesPast blockDot rowDot
     someDot rowsShort glyphBit shownAt boundsHold placeable infoOf prepared glyphDrawn drawChar find leadOf leads longer
-    stepAt decodeFrom decoded placed textFrom inText drawString offsetOf wrapped placedDrawn pairs allPairs
+    stepAt decodeFrom decoded placed textFrom inText ready drawString offsetOf wrapped placedDrawn pairs allPairs
 proved-cases = (refl, (refl, (refl, (refl, (refl, (refl, (refl, (refl, (refl, (refl, tt))))))))))

@@ -7,3 +7,4 @@ pub mod SixExactly
 pub mod Passing
 pub mod Refusing
 pub mod Drawing
+pub mod Texts

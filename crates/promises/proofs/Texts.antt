@@ -1,0 +1,135 @@
+-- With a font that passed vetting the panel shows of a text what `Shown` says.
+use Prim.Native.Nat.{ℕ, _+_, _*_, _≤_, _<_}
+use mathlib.Core.Path.{_≡_, refl, sym, ap, subst, _∙_}
+use mathlib.Core.Bool.{Bool, true, false, cond}
+use mathlib.Core.List.{List, [], _∷_}
+use mathlib.Core.Logic.{_↔_, inl, inr, ⊎-elim}
+use native.Mathlib.Omega.{arith}
+use lib.ListN.{length, getD}
+use borrow.Author.Tests.{le-leb}
+use Rattle.reads.proofs.Tests.{split}
+use Rattle.tables.specs.declared.Record.{Record}
+use Rattle.load.proofs.Serves.{loaded-serves}
+use Rattle.bitmaps.specs.Limits.{okPlace}
+use Rattle.bitmaps.proofs.Painting.{length-painted, getD-painted}
+use Rattle.vet.specs.Vet.{vetted}
+use Rattle.vet.specs.declared.Vetted.{Vetted}
+use Rattle.vet.proofs.Verdict.{passes-when}
+use Rattle.utf8.specs.Decode.{Char, chars, refused, decoded, charsOf}
+use Rattle.utf8.proofs.Accepts.{accepts}
+use Rattle.utf8.proofs.Walk.{checked-whole}
+use Rattle.text.specs.Walk.{origin, lineHeight}
+use Rattle.text.specs.Text.{textFrom, inText, ready, drawString, stringLeaves}
+use Rattle.text.specs.declared.Layout.{Layout}
+use Rattle.text.specs.declared.TextDrawn.{TextDrawn}
+use Rattle.text.specs.declared.TextRows.{TextRows}
+use Rattle.promises.specs.Texts.{Spot, spotsOf, endOf, Some, Beyond, FirstBeyond, Given, IsRefused, Defined, Shown}
+use Rattle.promises.proofs.TextGlyphs.{Told, told-text, inked-text}
+use Rattle.promises.proofs.TextHeight.{height-within}
+
+-- within the limits 15 does not refuse
+ok-place : (start stride scale : ℕ) → start ≤ 2147483647 → 1 ≤ stride → stride ≤ 65535 → 1 ≤ scale → scale ≤ 64 → okPlace start stride scale ≡ true
+ok-place start stride scale a b c d e =
+    rw (le-leb start 2147483647 a, le-leb 1 stride b, le-leb stride 65535 c, le-leb 1 scale d, le-leb scale 64 e) refl
+
+module _ (s : List ℕ) (rec : Record) (text : List ℕ) (lay : Layout) (colour : ℕ) (old : List ℕ) where
+  abbrev len : ℕ
+  len = length old
+
+  abbrev spots : List Spot
+  spots = spotsOf s rec lay text
+
+  -- what the answer tells of a whole text
+  abbrev ToldWhole : TextDrawn → Type 0
+  ToldWhole a = Told s rec lay len a spots (endOf s rec lay text) 0
+
+  -- ---- refused exactly when, and where
+
+  first-some : (p : ℕ) (xs : List Spot) → FirstBeyond lay len s rec p xs → Some (Beyond lay len s rec) xs
+  first-some p [] none = none
+  first-some p (x ∷ xs) first = ⊎-elim (λ (is, b). inl b) (λ (room, later). inr (first-some p xs later)) first
+
+  refused-exactly : (a : TextDrawn) → ToldWhole a → IsRefused a ↔ Some (Beyond lay len s rec) spots
+  refused-exactly (TextDrawn.Done t) (none, height, dropped) = (λ no-refusal. absurd no-refusal, none)
+  refused-exactly (TextDrawn.Refused r) (number, first) = (λ is. first-some (r .place) spots first, λ some. tt)
+
+  refused-leaves : (a : TextDrawn) → IsRefused a → stringLeaves s rec text lay colour a old ≡ old
+  refused-leaves (TextDrawn.Done t) is = absurd is
+  refused-leaves (TextDrawn.Refused r) is = refl
+
+  -- ---- the pixels
+
+  length-kept : (a : TextDrawn) → length (stringLeaves s rec text lay colour a old) ≡ length old
+  length-kept (TextDrawn.Done t) = length-painted (inText s rec lay len (charsOf (decoded text)) origin) colour old
+  length-kept (TextDrawn.Refused r) = refl
+
+  abbrev pixel : TextDrawn → ℕ → ℕ
+  pixel a i = getD (stringLeaves s rec text lay colour a old) i 0
+
+  abbrev IsDefined : ℕ → Type 0
+  IsDefined = Defined s rec text lay colour old
+
+  -- a drawn text colours by its rule
+  by-rule : (t : TextRows) (i : ℕ) → i < len → (b : Bool) → inText s rec lay len (charsOf (decoded text)) origin i ≡ b
+      → pixel (TextDrawn.Done t) i ≡ cond b colour (getD old i 0)
+  by-rule t i h b e =
+      getD-painted (inText s rec lay len (charsOf (decoded text)) origin) colour old i h ∙ ap (λ (x : Bool). cond x colour (getD old i 0)) e
+
+  module _ (passed : vetted s ≡ Vetted.Passed rec) where
+    pixel-coloured : (a : TextDrawn) → ToldWhole a → (IsRefused a → ⊥) → (i : ℕ) → i < len → IsDefined i → pixel a i ≡ colour
+    pixel-coloured (TextDrawn.Done t) (none, height, dropped) drawn i h is =
+        by-rule t i h true (inked-text s rec lay len i passed (charsOf (decoded text)) origin none .1 is)
+    pixel-coloured (TextDrawn.Refused r) told drawn i h is = absurd (drawn tt)
+
+    pixel-kept : (a : TextDrawn) → ToldWhole a → (i : ℕ) → i < len → (IsDefined i → ⊥) → pixel a i ≡ getD old i 0
+    pixel-kept (TextDrawn.Done t) (none, height, dropped) i h is-none =
+        split (inText s rec lay len (charsOf (decoded text)) origin i)
+        (λ e. absurd (is-none (inked-text s rec lay len i passed (charsOf (decoded text)) origin none .0 e)))
+        (by-rule t i h false)
+    pixel-kept (TextDrawn.Refused r) told i h is-none = refl
+
+    -- ---- a text that can be read, within the limits
+
+    module _ (cs : List Char) (decodes : decoded text ≡ chars cs) (short : length text ≤ 65535)
+        (start-high : lay .start ≤ 2147483647)
+        (stride-low : 1 ≤ lay .stride)
+        (stride-high : lay .stride ≤ 65535)
+        (scale-low : 1 ≤ lay .scale)
+        (scale-high : lay .scale ≤ 64)
+      where
+        -- nothing refuses before the first character
+        answer-is : drawString s rec text len lay ≡ textFrom s rec lay len (charsOf (decoded text)) origin 0
+        unfolding drawString ready
+        answer-is =
+            let (loads, sound) = passes-when s rec .0 passed in
+            rw (
+              loaded-serves s rec loads,
+              ok-place (lay .start) (lay .stride) (lay .scale) start-high stride-low stride-high scale-low scale-high,
+              le-leb (length text) 65535 short,
+              decodes,
+              sound .bounds,
+            ) refl
+
+        pub shown-when-decoded : Shown s rec text lay colour old
+        shown-when-decoded =
+            let a = drawString s rec text len lay in
+            let told = subst ToldWhole (sym answer-is) (told-text s rec lay len passed (charsOf (decoded text)) origin 0) in
+            record {
+              refused-exactly = refused-exactly a told;
+              refused-where = λ r e. subst ToldWhole e told;
+              refused-leaves = refused-leaves a;
+              pixel-coloured = pixel-coloured a told;
+              pixel-kept = pixel-kept a told;
+              length-kept = length-kept a;
+              height-is = λ t e. subst ToldWhole e told .1;
+              dropped-is = λ t e. subst ToldWhole e told .2 ∙ (omega arith);
+              height-most = λ t e. subst (λ h. h ≤ lineHeight rec (lay .scale) * (length text + 1)) (sym (subst ToldWhole e told .1)) (height-within text s rec lay);
+            }
+
+-- ---- demand 3 for texts
+
+pub demand-3 : (s : List ℕ) (rec : Record) (text : List ℕ) (lay : Layout) → Given s rec text lay → (colour : ℕ) (old : List ℕ) → Shown s rec text lay colour old
+demand-3 s rec text lay given colour old =
+    shown-when-decoded s rec text lay colour old (given .passed) (charsOf (decoded text))
+    (checked-whole text (accepts text .1 (given .well-formed))) (given .short)
+    (given .start-high) (given .stride-low) (given .stride-high) (given .scale-low) (given .scale-high)
