@@ -1,7 +1,7 @@
 -- A call with a record is refused 6 exactly when the record's test fails: so never with a record that loading gave for the same bytes.
-use mathlib.Core.Path.{_≡_, refl, sym, _∙_}
+use mathlib.Core.Path.{_≡_, refl, sym, ap, _∙_}
 use mathlib.Core.Bool.{true, false, cond, _&&_}
-use mathlib.Core.List.{List}
+use mathlib.Core.List.{List, [], _∷_}
 use Prim.Native.Nat.{ℕ, _+_, _-_, _*_}
 use native.Mathlib.Omega.{arith}
 use lib.ListN.{length}
@@ -48,6 +48,15 @@ use Rattle.glyphs.specs.Glyph.{placeOf, okInfo, glyphDrawn, drawGlyph}
 use Rattle.glyphs.specs.Char.{withInfo, charOf, drawChar, saidChar}
 use Rattle.glyphs.specs.Unpack.{glyphUnpacked, unpackGlyph}
 use Rattle.glyphs.specs.declared.CharDrawn.{CharDrawn}
+use Rattle.utf8.specs.Decode.{Char, Decoded, chars, refused, decoded, charsOf, checked}
+use Rattle.utf8.proofs.Accepts.{refuses}
+use Rattle.text.specs.Walk.{origin, wrapped, placeInfo, placeFound, placed, spot, placedDrawn, penAfter}
+use Rattle.text.specs.Text.{afterChar, textFrom, readyText, ready, whenReady, drawString, saidText}
+use Rattle.text.specs.declared.Layout.{Layout}
+use Rattle.text.specs.declared.Pen.{Pen}
+use Rattle.text.specs.declared.Placed.{Placed}
+use Rattle.text.specs.declared.Ready.{Ready}
+use Rattle.text.specs.declared.TextDrawn.{TextDrawn}
 use Rattle.frames.specs.Frames.{frameOf}
 use Rattle.frames.specs.Put.{lineInto, frameInto, saidPrinted}
 use Rattle.frames.specs.declared.Printed.{Printed}
@@ -162,6 +171,45 @@ unpacked-past s b i len start stride =
     (either P (rowsShort s b g (i .width) (i .height)) (λ e. omega arith)
     (either P (pixelPast s b g (i .width) (wholeColumns (i .width)) (placeOf i start stride 1) stride 1 (i .height) len) (λ e. omega arith) (λ e. omega arith))))
 
+-- a character of a text, and all of them
+module _ (s : List ℕ) (rec : Record) (lay : Layout) (len : ℕ) where
+  abbrev PlacedPast : Placed → Type 0
+  PlacedPast p = NotSix (saidDrawn (placedDrawn s rec lay len p))
+
+  place-info-past : (pen : Pen) (q : Prepared) → NotSix (saidPrepared q) → PlacedPast (placeInfo rec lay pen q)
+  unfolding placedDrawn
+  place-info-past pen (Prepared.Info i) h = glyph-drawn-past s (rec .bitmaps) i len (spot lay (wrapped rec lay i pen)) (lay .stride) (lay .scale)
+  place-info-past pen (Prepared.Refused r) h = h
+
+  place-found-past : (pen : Pen) (f : Found) → PlacedPast (placeFound s rec lay pen f)
+  unfolding placedDrawn
+  place-found-past pen (Found.Glyph g) = place-info-past pen (infoOf s rec g) (info-past s rec g)
+  place-found-past pen (Found.Refused r) = λ e. omega arith
+
+  placed-past : (code : ℕ) (pen : Pen) → PlacedPast (placed s rec lay code pen)
+  unfolding placed placedDrawn
+  placed-past code pen =
+      either PlacedPast (eqb code 13) (λ e. omega arith)
+      (either PlacedPast (eqb code 10) (λ e. omega arith) (place-found-past pen (glyphOf s (rec .codes) code)))
+
+  after-char-past : (d : Drawn) (byte : ℕ) (rest : ℕ → TextDrawn) → NotSix (saidDrawn d) → ((n : ℕ) → NotSix (saidText (rest n)))
+      → NotSix (saidText (afterChar d byte rest))
+  after-char-past (Drawn.Rows r) byte rest h k = k (r .dropped)
+  after-char-past (Drawn.Refused r) byte rest h k = h
+
+  text-past : (cs : List Char) (pen : Pen) (dropped : ℕ) → NotSix (saidText (textFrom s rec lay len cs pen dropped))
+  unfolding textFrom
+  text-past [] pen dropped = λ e. omega arith
+  text-past (c ∷ cs) pen dropped =
+      let p = placed s rec lay (c .code) pen in
+      after-char-past (placedDrawn s rec lay len p) (c .byte) (λ more. textFrom s rec lay len cs (penAfter lay p pen) (dropped + more))
+      (placed-past (c .code) pen) (λ more. text-past cs (penAfter lay p pen) (dropped + more))
+
+  -- what refuses before the first character
+  ready-past : (text : List ℕ) (d : Decoded) → decoded text ≡ d → (a : TextDrawn) → NotSix (saidText a) → NotSix (saidText (whenReady (readyText rec lay d) a))
+  ready-past text (chars cs) e a h = either (λ (r : Ready). NotSix (saidText (whenReady r a))) (boundsHold (boundsOf rec)) h (λ e. omega arith)
+  ready-past text (refused r) e a h = λ six. omega (arith, refuses text r .0 (ap checked e) .0)
+
 -- each call, for whatever is asked
 module _ (s : List ℕ) (rec : Record) where
   by-test : (a : Said) → (recordFits (length s) rec ≡ true → NotSix a) → (recordFits (length s) rec ≡ false → Six a) → Exactly s rec a
@@ -228,6 +276,19 @@ module _ (s : List ℕ) (rec : Record) where
       (either (λ (r : CharDrawn). NotSix (saidChar r)) (okPlace start stride scale)
       (with-info-past (prepared s rec code) rest (prepared-past s rec code)
       (λ i. char-past i (glyphDrawn s (rec .bitmaps) i len start stride scale) (glyph-drawn-past s (rec .bitmaps) i len start stride scale)))
+      (λ e. omega arith)))
+      (λ t. rw t refl)
+
+  pub text-six : (text : List ℕ) (len : ℕ) (lay : Layout) → Exactly s rec (saidText (drawString s rec text len lay))
+  unfolding drawString ready
+  text-six text len lay =
+      let a = textFrom s rec lay len (charsOf (decoded text)) origin 0 in
+      let P : Ready → Type 0 = λ r. NotSix (saidText (whenReady r a)) in
+      by-test (saidText (drawString s rec text len lay))
+      (λ t. rw t
+      (either P (okPlace (lay .start) (lay .stride) (lay .scale))
+      (either P (leb (length text) 65535)
+      (ready-past s rec lay len text (decoded text) refl a (text-past s rec lay len (charsOf (decoded text)) origin 0)) (λ e. omega arith))
       (λ e. omega arith)))
       (λ t. rw t refl)
 

@@ -9,6 +9,8 @@ use Rattle.bitmaps.specs.Unpack.{unpackedLeaves}
 use Rattle.glyphs.specs.Glyph.{placeOf, glyphLeaves}
 use Rattle.glyphs.specs.Char.{charLeaves}
 use Rattle.glyphs.specs.Unpack.{unpackLeaves}
+use Rattle.text.specs.Text.{stringLeaves}
+use Rattle.text.specs.declared.Layout.{Layout}
 use Rattle.hexline.specs.Fill.{hexLeaves}
 use Rattle.frames.specs.Put.{frameLeaves, refusedLeaves}
 use Rattle.promises.specs.Unique.{Fixes, FixesBytes, FixesLent}
@@ -144,6 +146,16 @@ use Rattle.glyphs.proofs.draw_char.Kinds as draw-char-kinds
 use Rattle.glyphs.proofs.draw_char.Reads as draw-char-reads
 use Rattle.glyphs.proofs.unpack_glyph.Kinds as unpack-glyph-kinds
 use Rattle.glyphs.proofs.unpack_glyph.Reads as unpack-glyph-reads
+use Rattle.place.proofs.bounds_sized.Kinds as bounds-sized-kinds
+use Rattle.place.proofs.bounds_sized.Reads as bounds-sized-reads
+use Rattle.utf8.proofs.step_at.Kinds as step-at-kinds
+use Rattle.utf8.proofs.step_at.Reads as step-at-reads
+use Rattle.utf8.proofs.check.Kinds as check-kinds
+use Rattle.utf8.proofs.check.Reads as check-reads
+use Rattle.text.proofs.text_check.Kinds as text-check-kinds
+use Rattle.text.proofs.text_check.Reads as text-check-reads
+use Rattle.text.proofs.draw_string.Kinds as draw-string-kinds
+use Rattle.text.proofs.draw_string.Reads as draw-string-reads
 
 pub byte-at-unique : Fixes 1 byte-at-kinds.ps byte-at-kinds.r byte-at-reads.Post
 byte-at-unique κs a r₁ r₂ x₁ x₂ p q = p ∙ sym q
@@ -355,3 +367,20 @@ draw-char-unique κs a r₁ r₂ x₁ x₂ p q =
 pub unpack-glyph-unique : FixesLent 2 unpack-glyph-kinds.ps unpack-glyph-kinds.r unpack-glyph-reads.Post (λ κs x. now (x .1 .1 .1 .0))
 unpack-glyph-unique κs a r₁ r₂ x₁ x₂ p q =
     both-fixed (λ r. unpackLeaves (now (a .0)) (a .1 .0) (a .1 .1 .0) (a .1 .1 .1 .1 .0) (a .1 .1 .1 .1 .1 .0) r (now (a .1 .1 .1 .0))) (p .0) (q .0) (p .1) (q .1)
+
+pub bounds-sized-unique : Fixes 0 bounds-sized-kinds.ps bounds-sized-kinds.r bounds-sized-reads.Post
+bounds-sized-unique κs a r₁ r₂ x₁ x₂ p q = p ∙ sym q
+
+pub step-at-unique : Fixes 1 step-at-kinds.ps step-at-kinds.r step-at-reads.Post
+step-at-unique κs a r₁ r₂ x₁ x₂ p q = p ∙ sym q
+
+pub check-unique : Fixes 1 check-kinds.ps check-kinds.r check-reads.Post
+check-unique κs a r₁ r₂ x₁ x₂ p q = p ∙ sym q
+
+pub text-check-unique : Fixes 2 text-check-kinds.ps text-check-kinds.r text-check-reads.Post
+text-check-unique κs a r₁ r₂ x₁ x₂ p q = p ∙ sym q
+
+pub draw-string-unique : FixesLent 3 draw-string-kinds.ps draw-string-kinds.r draw-string-reads.Post (λ κs x. now (x .1 .1 .1 .0))
+draw-string-unique κs a r₁ r₂ x₁ x₂ p q =
+    let lay : Layout = record { start = a .1 .1 .1 .1 .0; wrap = a .1 .1 .1 .1 .1 .0; stride = a .1 .1 .1 .1 .1 .1 .0; scale = a .1 .1 .1 .1 .1 .1 .1 .0 } in
+    both-fixed (λ r. stringLeaves (now (a .0)) (a .1 .0) (now (a .1 .1 .0)) lay (a .1 .1 .1 .1 .1 .1 .1 .1 .0) r (now (a .1 .1 .1 .0))) (p .0) (q .0) (p .1) (q .1)
