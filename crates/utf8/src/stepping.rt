@@ -9,85 +9,48 @@ ghost use Prim.Native.Nat.{_<_, _^_};
 ghost use Rattle.utf8.specs.Table.{leadOf, continues};
 ghost use Rattle.utf8.specs.Step.{illFormed, longer, stepAt};
 
+// A line of the table: how many bytes a character takes, and the range of its second byte.
+fn line(size: u8, low: u8, high: u8) -> Lead
+    ensures { λ r. ⌜ r ≡ record { size = size; low = low; high = high } ⌝ }
+{
+    Lead { size, low, high }
+}
+
 // The table's line for a first byte.
 fn lead_of(b: u8) -> Lead
     ensures { λ r. ⌜ r ≡ leadOf b ⌝ }
 {
     if b < 0x80 {
-        return Lead {
-            size: 1,
-            low: 0,
-            high: 0xFF,
-        };
+        return line(1, 0, 0xFF);
     }
     if b < 0xC2 {
-        return Lead {
-            size: 0,
-            low: 0,
-            high: 0,
-        };
+        return line(0, 0, 0);
     }
     if b < 0xE0 {
-        return Lead {
-            size: 2,
-            low: 0x80,
-            high: 0xBF,
-        };
+        return line(2, 0x80, 0xBF);
     }
     if b < 0xE1 {
-        return Lead {
-            size: 3,
-            low: 0xA0,
-            high: 0xBF,
-        };
+        return line(3, 0xA0, 0xBF);
     }
     if b < 0xED {
-        return Lead {
-            size: 3,
-            low: 0x80,
-            high: 0xBF,
-        };
+        return line(3, 0x80, 0xBF);
     }
     if b < 0xEE {
-        return Lead {
-            size: 3,
-            low: 0x80,
-            high: 0x9F,
-        };
+        return line(3, 0x80, 0x9F);
     }
     if b < 0xF0 {
-        return Lead {
-            size: 3,
-            low: 0x80,
-            high: 0xBF,
-        };
+        return line(3, 0x80, 0xBF);
     }
     if b < 0xF1 {
-        return Lead {
-            size: 4,
-            low: 0x90,
-            high: 0xBF,
-        };
+        return line(4, 0x90, 0xBF);
     }
     if b < 0xF4 {
-        return Lead {
-            size: 4,
-            low: 0x80,
-            high: 0xBF,
-        };
+        return line(4, 0x80, 0xBF);
     }
     if b < 0xF5 {
-        return Lead {
-            size: 4,
-            low: 0x80,
-            high: 0x8F,
-        };
+        return line(4, 0x80, 0x8F);
     }
-    Lead {
-        size: 0,
-        low: 0,
-        high: 0,
-    }
+    line(0, 0, 0)
 }
 
 fn continues(b: u8) -> bool
