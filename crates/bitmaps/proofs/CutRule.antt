@@ -1,8 +1,8 @@
 -- What the cut rule keeps: how many of a glyph's rows are drawn into the buffer that is left from its place on.
-use Prim.Native.Nat.{ℕ, _-_, _*_, _/_, _≤_}
+use Prim.Native.Nat.{ℕ, _+_, _-_, _*_, _/_, _≤_}
 use mathlib.Core.Path.{_≡_}
 use native.Mathlib.Omega.{arith}
-use native.Mathlib.Nat.{div-mul-le-self, mul-le-mul-right, le-trans, zero-div, div-zero, mul-zero, min-eq-left}
+use native.Mathlib.Nat.{le-div-iff-mul-le, div-add-mod', mod-lt, div-mul-le-self, mul-le-mul-right, le-trans, zero-div, div-zero, mul-zero, min-eq-left}
 use Rattle.bitmaps.specs.Cut.{linesFrom, drawnRows}
 
 module _ (len p stride scale height : ℕ) where
@@ -13,6 +13,12 @@ module _ (len p stride scale height : ℕ) where
   -- no row is lost where whole groups of `scale` lines hold them all
   pub drawn-all : height ≤ linesFrom len p stride / scale * scale → drawnRows len p stride scale height ≡ height
   drawn-all h = min-eq-left h
+
+  -- nor where the lines that the buffer has are as many as the rows and one group more
+  pub drawn-room : 1 ≤ stride → 1 ≤ scale → (height + scale) * stride ≤ len - p → drawnRows len p stride scale height ≡ height
+  drawn-room a b h =
+      let lines : height + scale ≤ linesFrom len p stride = le-div-iff-mul-le a .1 h in
+      drawn-all (omega (arith, lines, div-add-mod' (linesFrom len p stride) scale, mod-lt (linesFrom len p stride) {m = scale} b))
 
   -- a line that the buffer has only in part does not count
   pub drawn-lines : drawnRows len p stride scale height * stride ≤ len - p

@@ -29,8 +29,14 @@ fn rows_drawn(len: usize, p: usize, stride: u16, scale: u8, height: u16) -> u16
     if scale == 0 {
         return 0;
     }
+    let line = stride as usize;
     let side = scale as usize;
-    let whole = room_from(len, p) / stride as usize / side * side;
+    let room = room_from(len, p);
+    // Most glyphs have room and to spare, which is seen without a division.
+    if (height as usize + side) * line <= room {
+        return height;
+    }
+    let whole = room / line / side * side;
     if height as usize <= whole {
         return height;
     }

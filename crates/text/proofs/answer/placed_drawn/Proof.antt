@@ -1,5 +1,5 @@
-use Rattle.text.specs.Walk.{placedDrawn}
 use mathlib.Core.Path.{refl}
+use Rattle.text.specs.Walk.{placedDrawn}
 use borrow.Author.Needs.{needs}
 use Rattle.text.proofs.answer.placed_drawn.Statement.{statement}
 use Rattle.text.proofs.answer.placed_drawn.Tie as tie

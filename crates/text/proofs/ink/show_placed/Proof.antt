@@ -1,7 +1,7 @@
-use Rattle.text.proofs.ShownGlyph.{shown-placed}
-use Rattle.bitmaps.proofs.Painting.{painted-none}
-use mathlib.Core.Bool.{false}
 use mathlib.Core.Path.{refl, sym}
+use mathlib.Core.Bool.{false}
+use Rattle.bitmaps.proofs.Painting.{painted-none}
+use Rattle.text.proofs.ShownGlyph.{shown-placed}
 use borrow.Author.Needs.{needs}
 use Rattle.text.proofs.ink.show_placed.Statement.{statement}
 use Rattle.text.proofs.ink.show_placed.Tie as tie

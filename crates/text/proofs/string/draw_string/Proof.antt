@@ -1,6 +1,6 @@
-use Rattle.text.proofs.BeforeFirst.{ready-line, draw-ready, draw-refused}
-use lib.ListN.{length}
 use mathlib.Core.Path.{refl, sym, _∙_}
+use lib.ListN.{length}
+use Rattle.text.proofs.BeforeFirst.{ready-line, draw-ready, draw-refused}
 use borrow.Author.Needs.{needs}
 use Rattle.text.proofs.string.draw_string.Statement.{statement}
 use Rattle.text.proofs.string.draw_string.Tie as tie

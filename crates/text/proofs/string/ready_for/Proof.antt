@@ -1,9 +1,9 @@
-use Rattle.text.proofs.BeforeFirst.{sized-height, ready-6, ready-15, ready-19, ready-ill, ready-sized, ready-11}
-use Rattle.outcome.proofs.WithinLimits.{place-limits}
-use Rattle.outcome.proofs.Sizes.{within}
-use borrow.Author.Tests.{not-true, not-false}
 use mathlib.Core.Path.{sym, _∙_}
 use native.Mathlib.Omega.{arith}
+use borrow.Author.Tests.{not-true, not-false}
+use Rattle.outcome.proofs.WithinLimits.{place-limits}
+use Rattle.outcome.proofs.Sizes.{within}
+use Rattle.text.proofs.BeforeFirst.{sized-height, ready-6, ready-15, ready-19, ready-ill, ready-sized, ready-11}
 use borrow.Author.Needs.{needs}
 use Rattle.text.proofs.string.ready_for.Statement.{statement}
 use Rattle.text.proofs.string.ready_for.Tie as tie

@@ -1,5 +1,5 @@
-use Rattle.text.proofs.BeforeFirst.{ready-line, draw-ready, draw-refused}
 use mathlib.Core.Path.{sym, _∙_}
+use Rattle.text.proofs.BeforeFirst.{ready-line, draw-ready, draw-refused}
 use borrow.Author.Needs.{needs}
 use Rattle.text.proofs.string.text_check.Statement.{statement}
 use Rattle.text.proofs.string.text_check.Tie as tie

@@ -1,5 +1,5 @@
-use Rattle.text.proofs.PenBounds.{advance-most}
 use native.Mathlib.Omega.{arith}
+use Rattle.text.proofs.PenBounds.{advance-most}
 use borrow.Author.Needs.{needs}
 use Rattle.text.proofs.walk.advance_of.Statement.{statement}
 use Rattle.text.proofs.walk.advance_of.Tie as tie

@@ -1,5 +1,5 @@
-use Rattle.text.proofs.PenBounds.{after-skip, after-glyph, after-refused, advance-most}
 use native.Mathlib.Omega.{arith}
+use Rattle.text.proofs.PenBounds.{after-skip, after-glyph, after-refused, advance-most}
 use borrow.Author.Needs.{needs}
 use Rattle.text.proofs.walk.pen_after.Statement.{statement}
 use Rattle.text.proofs.walk.pen_after.Tie as tie

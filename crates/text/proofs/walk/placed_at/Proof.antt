@@ -1,6 +1,6 @@
-use Rattle.text.proofs.Placing.{at-return, at-newline, at-glyph, at-none}
-use Rattle.text.specs.declared.Placed.{Placed}
 use mathlib.Core.Path.{sym, ap, _∙_}
+use Rattle.text.specs.declared.Placed.{Placed}
+use Rattle.text.proofs.Placing.{at-return, at-newline, at-glyph, at-none}
 use borrow.Author.Needs.{needs}
 use Rattle.text.proofs.walk.placed_at.Statement.{statement}
 use Rattle.text.proofs.walk.placed_at.Tie as tie

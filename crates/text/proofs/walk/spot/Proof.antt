@@ -1,5 +1,5 @@
-use Rattle.text.proofs.PenBounds.{line-most}
 use native.Mathlib.Omega.{arith}
+use Rattle.text.proofs.PenBounds.{line-most}
 use borrow.Author.Needs.{needs}
 use Rattle.text.proofs.walk.spot.Statement.{statement}
 use Rattle.text.proofs.walk.spot.Tie as tie

@@ -1,7 +1,7 @@
-use Rattle.text.proofs.Placing.{wraps, goes-on}
-use Rattle.text.proofs.PenBounds.{advance-most}
 use mathlib.Core.Path.{sym, _∙_}
 use native.Mathlib.Omega.{arith}
+use Rattle.text.proofs.Placing.{wraps, goes-on}
+use Rattle.text.proofs.PenBounds.{advance-most}
 use borrow.Author.Needs.{needs}
 use Rattle.text.proofs.walk.wrapped.Statement.{statement}
 use Rattle.text.proofs.walk.wrapped.Tie as tie

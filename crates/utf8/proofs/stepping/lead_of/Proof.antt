@@ -1,7 +1,7 @@
-use Rattle.utf8.proofs.Leads.{arm, every, in-range, same}
-use Rattle.utf8.specs.Table.{leadOf, find, table}
 use mathlib.Core.Path.{_∙_}
 use native.Mathlib.Omega.{arith}
+use Rattle.utf8.specs.Table.{leadOf, find, table}
+use Rattle.utf8.proofs.Leads.{arm, every, in-range, same}
 use borrow.Author.Needs.{needs}
 use Rattle.utf8.proofs.stepping.lead_of.Statement.{statement}
 use Rattle.utf8.proofs.stepping.lead_of.Tie as tie

@@ -1,11 +1,11 @@
 use Prim.Native.Nat.{_-_}
-use native.Mathlib.Omega.{arith}
 use mathlib.Core.Path.{sym, _∙_}
+use native.Mathlib.Omega.{arith}
 use lib.ListN.{length}
-use borrow.Author.Needs.{needs}
 use Rattle.utf8.specs.Decode.{decoded, checked}
 use Rattle.utf8.proofs.Walk.{step-within}
 use Rattle.utf8.proofs.Rest.{Answer, answer-all, answer-char, answer-end, answer-bad}
+use borrow.Author.Needs.{needs}
 use Rattle.utf8.proofs.whole.check.Statement.{statement}
 use Rattle.utf8.proofs.whole.check.Tie as tie
 
