@@ -15,7 +15,7 @@ PROGRAM = os.path.join(os.path.dirname(TESTS), "crates", "draws")
 sys.path.insert(0, TESTS)
 
 from definitions import model  # noqa: E402
-from draws import make  # noqa: E402
+from draws import calls, make  # noqa: E402
 
 # every number that each call can refuse with
 REFUSED = {
@@ -25,6 +25,8 @@ REFUSED = {
     "unpack_glyph": [6, 13, 14, 15, 16],
     "prep_char": [6, 9, 10, 11],
     "show_glyph": [13, 14, 16],
+    "draw_string": [6, 10, 11, 13, 14, 15, 16, 19],
+    "step_at": [19],
 }
 
 
@@ -95,6 +97,9 @@ def asked(b, rec, c, buf, colour):
     if call == "unpack_glyph":
         rows, new = model.unpack_glyph(b, rec, c["info"], buf, *place[:2])
         return "rows %d" % rows, new
+    if call == "draw_string":
+        extent, new = model.draw_string(b, rec, c["text"], buf, c["start"], c["wrap"], *place[1:], colour)
+        return "height %d, dropped %d" % extent, new
     # show_glyph: as draw_glyph of a record that passes its test, but asks no limit
     length = buf.length if isinstance(buf, Length) else len(buf)
     seen = model.glyph_picture(b, rec, c["info"], length, *place)
@@ -123,29 +128,37 @@ def dry(b, rec, c):
         model.coloured = kept
 
 
+def found(b, rec, c):
+    """the answer in words of a call that draws nothing"""
+    if c["call"] == "prep_char":
+        return box_words(model.prep_char(b, rec, c["code"]))
+    step = model.utf8_step(c["text"], c["start"])
+    return "end" if step is None else "code %d, next %d" % step
+
+
 def line(b, rec, c, colour):
     """what is written of a call, and the number that it is refused with or 0"""
-    if c["call"] == "prep_char":
+    if c["call"] in ("prep_char", "step_at"):
         try:
-            return "prep_char: " + box_words(model.prep_char(b, rec, c["code"])), 0
+            return "%s: %s" % (c["call"], found(b, rec, c)), 0
         except model.Refused as r:
-            return "prep_char: %s" % r, r.number
+            return "%s: %s" % (c["call"], r), r.number
     number, new, old = 0, [], []
     try:
-        if c["len"] > make.MOST:
+        if c["len"] > calls.MOST:
             words = dry(b, rec, c)
         else:
             old = before(c["len"])
             words, new = asked(b, rec, c, old, colour)
     except model.Refused as r:
         words, number = str(r), r.number
-    if c["len"] > make.MOST:
+    if c["len"] > calls.MOST:
         return "%s: dry run %s" % (c["call"], words), number
     places = [i for i, (was, now) in enumerate(zip(old, new)) if was != now]
     return "%s: %s; dry run %s; pixels %s" % (c["call"], words, words, runs(places)), number
 
 
-def lines(b, calls, seen):
+def lines(b, of_font, seen):
     """what is written of a font; counts what its calls answer"""
     yield "font of %d bytes" % len(b)
     try:
@@ -153,8 +166,8 @@ def lines(b, calls, seen):
     except model.Refused as r:
         yield str(r)
         return
-    for k, c in enumerate(calls):
-        text, number = line(b, changed(loaded, c.get("rec", {})), c, make.colour(c, k))
+    for k, c in enumerate(of_font):
+        text, number = line(b, changed(loaded, c.get("rec", {})), c, calls.colour(c, k))
         seen[c["call"], number] += 1
         yield text
 
@@ -163,8 +176,8 @@ def output(inputs, seen):
     made = []
     for name, sections in inputs.items():
         made.append("== " + name)
-        for b, calls in sections:
-            made += lines(b, calls, seen)
+        for b, of_font in sections:
+            made += lines(b, of_font, seen)
     return "".join(text + "\n" for text in made).encode()
 
 
@@ -184,7 +197,7 @@ def main():
     if kept != sorted(inputs):
         fail("crates/draws/data has %s, make.py makes %s" % (kept, sorted(inputs)))
     for name, sections in inputs.items():
-        if read("data", name) != make.content(sections):
+        if read("data", name) != calls.content(sections):
             fail("crates/draws/data/%s is not what make.py makes" % name)
     for name, content in want.items():
         if read(name) != content:

@@ -8,6 +8,8 @@ use glyphs::CharDrawn;
 use place::GlyphInfo;
 use place::Prepared;
 use reads::Refusal;
+use text::TextDrawn;
+use utf8::Step;
 
 pub(crate) fn refusal(r: Refusal) {
     number(b"refused ", r.number as usize);
@@ -50,6 +52,27 @@ pub(crate) fn unpacked(answer: Unpacked) {
     match answer {
         Unpacked::Rows(n) => number(b"rows ", n as usize),
         Unpacked::Refused(r) => refusal(r),
+    }
+}
+
+pub(crate) fn text_drawn(answer: TextDrawn) {
+    match answer {
+        TextDrawn::Done(rows) => {
+            number(b"height ", rows.height);
+            number(b", dropped ", rows.dropped);
+        }
+        TextDrawn::Refused(r) => refusal(r),
+    }
+}
+
+pub(crate) fn stepped(answer: Step) {
+    match answer {
+        Step::Char(code, next) => {
+            number(b"code ", code.0 as usize);
+            number(b", next ", next);
+        }
+        Step::End => say(b"end"),
+        Step::Refused(r) => refusal(r),
     }
 }
 

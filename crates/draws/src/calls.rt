@@ -1,10 +1,13 @@
 // A call in a file: 64 bytes, numbers with the least significant byte first. A change of the record has
-// its field's number at 1 and the value at 8; see `changes`.
+// its field's number at 1 and the value at 8; see `changes`. A text is a part of the font's bytes, which may
+// go on after its tables: it begins where others have the code, and is as long as others are high; with 1
+// at 1 it wraps where others have the width.
 use place::GlyphInfo;
 use reads::GlyphIndex;
 use reads::byte_at;
 use reads::u16_at;
 use reads::u32_at;
+use text::Wrap;
 
 pub(crate) const CALL: usize = 64;
 
@@ -19,6 +22,10 @@ pub(crate) const CHAR: u8 = 3;
 pub(crate) const UNPACK: u8 = 4;
 
 pub(crate) const PREP: u8 = 5;
+
+pub(crate) const TEXT: u8 = 7;
+
+pub(crate) const STEP: u8 = 8;
 
 // `width` and `height` are those of a bitmap, the others take the placed glyph's; `line` and `side` are
 // the lower bytes of stride and scale, for the call that takes no more.
@@ -35,6 +42,7 @@ pub(crate) struct Call {
     pub(crate) scale: usize,
     pub(crate) line: u16,
     pub(crate) side: u8,
+    pub(crate) wrap: Wrap,
 }
 
 // A number of eight bytes.
@@ -55,6 +63,13 @@ fn info_at(s: &[u8], at: usize) -> GlyphInfo {
     }
 }
 
+fn wrap_at(s: &[u8], at: usize) -> Wrap {
+    if byte_at(s, at, 1) == 0 {
+        return Wrap::Never;
+    }
+    Wrap::At(size_at(s, at, 8) as u64)
+}
+
 pub(crate) fn call_at(s: &[u8], at: usize) -> Call {
     let info = info_at(s, at);
     Call {
@@ -70,5 +85,6 @@ pub(crate) fn call_at(s: &[u8], at: usize) -> Call {
         scale: size_at(s, at, 56),
         line: u16_at(s, at, 48, false),
         side: byte_at(s, at, 56),
+        wrap: wrap_at(s, at),
     }
 }

@@ -3,6 +3,8 @@ use crate::answers::char_drawn;
 use crate::answers::drawn;
 use crate::answers::prepared;
 use crate::answers::refusal;
+use crate::answers::stepped;
+use crate::answers::text_drawn;
 use crate::answers::unpacked;
 use crate::calls::BITMAP;
 use crate::calls::CALL;
@@ -11,6 +13,8 @@ use crate::calls::CHAR;
 use crate::calls::Call;
 use crate::calls::GLYPH;
 use crate::calls::PREP;
+use crate::calls::STEP;
+use crate::calls::TEXT;
 use crate::calls::UNPACK;
 use crate::calls::call_at;
 use crate::changes::changed;
@@ -34,8 +38,24 @@ fn kind_words(kind: u8) {
         CHAR => say(b"draw_char: "),
         UNPACK => say(b"unpack_glyph: "),
         PREP => say(b"prep_char: "),
+        TEXT => say(b"draw_string: "),
+        STEP => say(b"step_at: "),
         _ => say(b"show_glyph: "),
     }
+}
+
+// The text of a call, empty where the font's bytes have no such part.
+fn text_of<'a>(font: &'a [u8], c: Call) -> &'a [u8] {
+    let from = c.code as usize;
+    let n = c.height;
+    if font.len() < from {
+        return &font[..0];
+    }
+    if font.len() - from < n {
+        return &font[..0];
+    }
+    let end = from + n;
+    &font[from..end]
 }
 
 // What the call's dry run answers. Its buffer may be longer than any.
@@ -43,6 +63,7 @@ fn dry(font: &[u8], rec: Record, c: Call) {
     say(b"dry run ");
     let kind = c.kind;
     let i = c.info;
+    let wrap = c.wrap;
     match kind {
         BITMAP => drawn(outcome::bitmap_check(
             font,
@@ -66,6 +87,16 @@ fn dry(font: &[u8], rec: Record, c: Call) {
             c.scale,
         )),
         UNPACK => unpacked(glyphs::unpack_check(font, rec, i, c.len, c.start, c.stride)),
+        TEXT => text_drawn(text::text_check(
+            font,
+            rec,
+            text_of(font, c),
+            c.len,
+            c.start,
+            wrap,
+            c.stride,
+            c.scale,
+        )),
         _ => drawn(glyphs::glyph_drawn(font, rec.bitmaps, i, c.len, c.start, c.line, c.side)),
     }
 }
@@ -74,6 +105,7 @@ fn dry(font: &[u8], rec: Record, c: Call) {
 fn wet(font: &[u8], rec: Record, c: Call, buf: &mut [u32]) {
     let kind = c.kind;
     let i = c.info;
+    let wrap = c.wrap;
     match kind {
         BITMAP => drawn(paint::draw_bitmap(
             font,
@@ -94,6 +126,17 @@ fn wet(font: &[u8], rec: Record, c: Call, buf: &mut [u32]) {
             CharCode(c.code),
             buf,
             c.start,
+            c.stride,
+            c.scale,
+            c.colour,
+        )),
+        TEXT => text_drawn(text::draw_string(
+            font,
+            rec,
+            text_of(font, c),
+            buf,
+            c.start,
+            wrap,
             c.stride,
             c.scale,
             c.colour,
@@ -149,10 +192,11 @@ fn drawing(font: &[u8], rec: Record, c: Call) {
 
 fn one_call(font: &[u8], rec: Record, c: Call) {
     kind_words(c.kind);
-    if c.kind == PREP {
-        prepared(place::prep_char(font, rec, CharCode(c.code)));
-    } else {
-        drawing(font, rec, c);
+    let kind = c.kind;
+    match kind {
+        PREP => prepared(place::prep_char(font, rec, CharCode(c.code))),
+        STEP => stepped(utf8::step_at(text_of(font, c), c.start)),
+        _ => drawing(font, rec, c),
     }
     say(b"\n");
 }

@@ -9,43 +9,43 @@ Inv-loop font rec calls count now₀ k₀ now k = Unit {0}
 abbrev μ-loop : tie.MeasureT-loop
 μ-loop font rec calls count now₀ k₀ now k = count - k
 
--- src/runs.rt:164:5
+-- src/runs.rt:208:5
 loop-holds : tie.Need-loop-holds Inv-loop μ-loop
 loop-holds c = search needs
 
--- src/runs.rt:165:25
+-- src/runs.rt:209:25
 cast-at : tie.Need-cast-at Inv-loop μ-loop
 cast-at c = search needs
 
--- src/runs.rt:165:18
+-- src/runs.rt:209:18
 mul-at : tie.Need-mul-at Inv-loop μ-loop
 mul-at c = search needs
 
--- src/runs.rt:166:13
+-- src/runs.rt:210:13
 call-at-requires : tie.Need-call-at-requires Inv-loop μ-loop
 call-at-requires c κs = search needs
 
--- src/runs.rt:168:13
+-- src/runs.rt:212:13
 changed-requires : tie.Need-changed-requires Inv-loop μ-loop
 changed-requires c κs = search needs
 
--- src/runs.rt:170:13
+-- src/runs.rt:214:13
 one-call-requires : tie.Need-one-call-requires Inv-loop μ-loop
 one-call-requires c κs = search needs
 
--- src/runs.rt:173:9
+-- src/runs.rt:217:9
 add-k : tie.Need-add-k Inv-loop μ-loop
 add-k c = search needs
 
--- src/runs.rt:164:5
+-- src/runs.rt:208:5
 loop-less : tie.Need-loop-less Inv-loop μ-loop
 loop-less c = search needs
 
--- src/runs.rt:164:5
+-- src/runs.rt:208:5
 loop-again : tie.Need-loop-again Inv-loop μ-loop
 loop-again c = search needs
 
--- src/runs.rt:161:1
+-- src/runs.rt:205:1
 returns : tie.Need-returns Inv-loop μ-loop
 returns c = search needs
 

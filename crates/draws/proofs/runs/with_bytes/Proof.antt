@@ -5,47 +5,47 @@ use borrow.Author.Needs.{needs}
 use Rattle.draws.proofs.runs.with_bytes.Statement.{statement}
 use Rattle.draws.proofs.runs.with_bytes.Tie as tie
 
--- src/runs.rt:129:19
+-- src/runs.rt:172:19
 fresh-bytes-requires : tie.Need-fresh-bytes-requires
 fresh-bytes-requires c κs = search needs
 
--- src/runs.rt:130:54
+-- src/runs.rt:173:54
 array-borrow-prefix-buf : tie.Need-array-borrow-prefix-buf
 array-borrow-prefix-buf c = search needs
 
--- src/runs.rt:130:54
+-- src/runs.rt:173:54
 slice-aggregate-unpack-glyph : tie.Need-slice-aggregate-unpack-glyph
 slice-aggregate-unpack-glyph c = sym (length-take-le (c .before .before .before .args .n) (c .before .fresh-bytes .result) (omega arith))
 
--- src/runs.rt:130:14
+-- src/runs.rt:173:14
 unpack-glyph-requires : tie.Need-unpack-glyph-requires
 unpack-glyph-requires c κs = search needs
 
--- src/runs.rt:130:5
+-- src/runs.rt:173:5
 unpacked-requires : tie.Need-unpacked-requires
 unpacked-requires c κs = search needs
 
--- src/runs.rt:131:9
+-- src/runs.rt:174:9
 slice-aggregate-say : tie.Need-slice-aggregate-say
 slice-aggregate-say c = search needs
 
--- src/runs.rt:131:5
+-- src/runs.rt:174:5
 say-requires : tie.Need-say-requires
 say-requires c κs = search needs
 
--- src/runs.rt:132:5
+-- src/runs.rt:175:5
 dry-requires : tie.Need-dry-requires
 dry-requires c κs = search needs
 
--- src/runs.rt:133:11
+-- src/runs.rt:176:11
 widened-requires : tie.Need-widened-requires
 widened-requires c κs = search needs
 
--- src/runs.rt:133:5
+-- src/runs.rt:176:5
 told-requires : tie.Need-told-requires
 told-requires c κs = search needs
 
--- src/runs.rt:126:1
+-- src/runs.rt:169:1
 returns : tie.Need-returns
 returns c = search needs
 
