@@ -1,4 +1,5 @@
 pub mod Table
 pub mod Step
 pub mod Decode
+pub mod Encoding
 pub mod WellFormed
