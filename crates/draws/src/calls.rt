@@ -1,7 +1,7 @@
 // A call in a file: 64 bytes, numbers with the least significant byte first. A change of the record has
 // its field's number at 1 and the value at 8; see `changes`. A text is a part of the font's bytes, which may
 // go on after its tables: it begins where others have the code, and is as long as others are high; with 1
-// at 1 it wraps where others have the width.
+// at 1 it wraps where others have the width. A step through it is made from `start`.
 use place::GlyphInfo;
 use reads::GlyphIndex;
 use reads::byte_at;

@@ -9,6 +9,7 @@ mod ByRule
 mod Drawing
 mod PassedChars
 mod TextGlyphs
+mod DrawnText
 mod TextHeight
 mod Texts
 mod TextKeeps

@@ -1,6 +1,6 @@
 -- How far down the pen comes in a text: no character lowers it by more than a line, and no text has more characters than bytes.
 use Prim.Native.Nat.{ℕ, zero, suc, _+_, _-_, _*_, _≤_}
-use mathlib.Core.Path.{_≡_, refl}
+use mathlib.Core.Path.{_≡_, refl, sym}
 use mathlib.Core.List.{List, [], _∷_}
 use native.Mathlib.Nat.{mul-suc, mul-le-mul-left}
 use native.Mathlib.Numerals.{add-one}
@@ -12,12 +12,16 @@ use Rattle.utf8.specs.Decode.{Char, Decoded, chars, refused, consChar, afterSte
 use Rattle.utf8.specs.declared.Step.{Step}
 use Rattle.utf8.proofs.Walk.{step-within}
 use Rattle.text.specs.Within.{placedPen}
-use Rattle.text.specs.Walk.{origin, lineHeight, placed, penAfter}
+use Rattle.text.specs.Walk.{origin, lineHeight, placed, placedDrawn, penAfter}
 use Rattle.text.specs.declared.Layout.{Layout}
 use Rattle.text.specs.declared.Pen.{Pen}
 use Rattle.text.specs.declared.Placed.{Placed}
+use Rattle.text.specs.Text.{textFrom, ready, drawString}
+use Rattle.text.specs.declared.TextDrawn.{TextDrawn}
+use Rattle.text.specs.declared.TextRows.{TextRows}
 use Rattle.text.proofs.PenBounds.{placed-lower}
 use Rattle.promises.specs.Texts.{endFrom, endOf}
+use Rattle.promises.proofs.DrawnText.{of-rows, was-ready}
 
 module _ (s : List ℕ) (rec : Record) (lay : Layout) where
   abbrev line : ℕ
@@ -74,3 +78,25 @@ module _ (text : List ℕ) where
       let most = mul-le-mul-left line few-chars in
       let one-more = mul-suc line (length text) in
       rw add-one (omega (arith, lowered, most, one-more))
+
+-- ---- the height of a text that was drawn
+
+module _ (s : List ℕ) (rec : Record) (lay : Layout) (len : ℕ) where
+  drawn-height : (cs : List Char) (pen : Pen) (before : ℕ) (t : TextRows) → textFrom s rec lay len cs pen before ≡ TextDrawn.Done t
+      → t .height ≡ endFrom s rec lay cs pen .y + lineHeight rec (lay .scale)
+  unfolding textFrom endFrom
+  drawn-height [] pen before t e = let is : pen .y + lineHeight rec (lay .scale) ≡ t .height = cc in sym is
+  drawn-height (c ∷ cs) pen before t e =
+      let p = placed s rec lay (c .code) pen in
+      let q = penAfter lay p pen in
+      let (r, drawn, rest) = of-rows (placedDrawn s rec lay len p) (c .byte) (λ more. textFrom s rec lay len cs q (before + more)) t e in
+      drawn-height cs q (before + r .dropped) t rest
+
+  -- with any font, text and layout
+  pub height-most : (text : List ℕ) (t : TextRows) → drawString s rec text len lay ≡ TextDrawn.Done t
+      → t .height ≤ lineHeight rec (lay .scale) * (length text + 1)
+  unfolding drawString
+  height-most text t e =
+      let cs = charsOf (decoded text) in
+      let is = drawn-height cs origin 0 t (was-ready (ready s rec text lay) (textFrom s rec lay len cs origin 0) t e) in
+      rw is (height-within text s rec lay)

@@ -3,7 +3,7 @@ use Prim.Native.Nat.{ℕ, _+_, _≤_}
 use mathlib.Core.Path.{_≡_, refl, sym, ap, ap₂, _∙_}
 use mathlib.Core.Bool.{Bool, true, false, _||_}
 use mathlib.Core.List.{List, [], _∷_}
-use mathlib.Core.Logic.{_⊎_, _↔_, inl, inr, ⊎-elim}
+use mathlib.Core.Logic.{_↔_, inl, inr, ⊎-elim}
 use native.Mathlib.Omega.{arith}
 use lib.ListN.{length}
 use borrow.Author.Tests.{eqb-true, eq-eqb, leb-true, leb-false}
@@ -20,15 +20,15 @@ use Rattle.place.specs.declared.GlyphInfo.{GlyphInfo}
 use Rattle.glyphs.specs.Glyph.{glyphDrawn, inInfo}
 use Rattle.utf8.specs.Decode.{Char, decoded, charsOf}
 use Rattle.text.specs.Walk.{origin, placed, spot, drawnFrom, placedDrawn, penAfter, rowsIn, inPlaced}
-use Rattle.text.specs.Text.{afterChar, textFrom, inText, ready, whenReady, drawString, stringLeaves, saidText}
+use Rattle.text.specs.Text.{textFrom, inText, ready, drawString, stringLeaves, saidText}
 use Rattle.text.specs.declared.Layout.{Layout}
 use Rattle.text.specs.declared.Pen.{Pen}
 use Rattle.text.specs.declared.Placed.{Placed}
-use Rattle.text.specs.declared.Ready.{Ready}
 use Rattle.text.specs.declared.TextDrawn.{TextDrawn}
 use Rattle.text.specs.declared.TextRows.{TextRows}
 use Rattle.promises.specs.Drawing.{Keeps}
 use Rattle.promises.specs.Texts.{Spot, spotBefore, spotsFrom, spotsOf, Some, spotPlace, spotRows, InkedAny, wholeText, textColoured, stringCall}
+use Rattle.promises.proofs.DrawnText.{of-rows, was-ready}
 use Rattle.promises.proofs.ByRule.{by-length}
 use Rattle.promises.proofs.Coloured.{lit-dot, found-dot}
 use Rattle.promises.proofs.Drawing.{nothing-inside, glyph-inside, allGlyph, glyph-whole}
@@ -113,12 +113,6 @@ module _ (s : List ℕ) (rec : Record) (text : List ℕ) (lay : Layout) where
           })
       walked-char (Placed.Refused n) r e w = let z : _≡_ {A = ℕ} 0 1 = cc in absurd (omega arith)
 
-    -- of a text that was drawn each character was
-    of-rows : (d : Drawn) (byte : ℕ) (rest : ℕ → TextDrawn) (t : TextRows) → afterChar d byte rest ≡ TextDrawn.Done t
-        → (r : Rows) × (d ≡ Drawn.Rows r) × (rest (r .dropped) ≡ TextDrawn.Done t)
-    of-rows (Drawn.Rows r) byte rest t e = (r, refl, e)
-    of-rows (Drawn.Refused r) byte rest t e = let z : _≡_ {A = ℕ} 0 1 = cc in absurd (omega arith)
-
     walked-text : (cs : List Char) (pen : Pen) (before : ℕ) (t : TextRows) → textFrom s rec lay len cs pen before ≡ TextDrawn.Done t
         → Walked (inText s rec lay len cs pen) (wholeFrom cs pen) (spotsFrom s rec lay cs pen) before (t .dropped)
     unfolding textFrom inText wholeFrom spotsFrom
@@ -139,11 +133,6 @@ module _ (s : List ℕ) (rec : Record) (text : List ℕ) (lay : Layout) where
 
   abbrev answer : ℕ → TextDrawn
   answer len = drawString s rec text len lay
-
-  -- a text that was drawn was ready for it
-  was-ready : (x : Ready) (a : TextDrawn) (t : TextRows) → whenReady x a ≡ TextDrawn.Done t → a ≡ TextDrawn.Done t
-  was-ready (Ready.Line line) a t e = e
-  was-ready (Ready.Refused r) a t e = let z : _≡_ {A = ℕ} 0 1 = cc in absurd (omega arith)
 
   walked-whole : (len : ℕ) (t : TextRows) → answer len ≡ TextDrawn.Done t
       → Walked len (inText s rec lay len cs origin) (wholeFrom cs origin) (spotsOf s rec lay text) 0 (t .dropped)

@@ -1,12 +1,14 @@
 -- With a font that passed vetting the panel shows of a text what `Shown` says.
-use Prim.Native.Nat.{ℕ, _+_, _*_, _≤_, _<_}
-use mathlib.Core.Path.{_≡_, refl, sym, ap, subst, _∙_}
+use Prim.Native.Nat.{ℕ, _≤_, _<_}
+use mathlib.Core.Path.{ap₂, _≡_, refl, sym, ap, subst, _∙_}
 use mathlib.Core.Bool.{Bool, true, false, cond}
 use mathlib.Core.List.{List, [], _∷_}
 use mathlib.Core.Logic.{_↔_, inl, inr, ⊎-elim}
 use native.Mathlib.Omega.{arith}
+use lib.IntN.{pos}
 use lib.ListN.{length, getD}
 use borrow.Author.Tests.{le-leb}
+use Rattle.reads.specs.Said.{Said, refusal, says, refuses}
 use Rattle.reads.proofs.Tests.{split}
 use Rattle.tables.specs.declared.Record.{Record}
 use Rattle.load.proofs.Serves.{loaded-serves}
@@ -18,12 +20,12 @@ use Rattle.vet.proofs.Verdict.{passes-when}
 use Rattle.utf8.specs.Decode.{Char, chars, refused, decoded, charsOf}
 use Rattle.utf8.proofs.Accepts.{accepts}
 use Rattle.utf8.proofs.Walk.{checked-whole}
-use Rattle.text.specs.Walk.{origin, lineHeight}
-use Rattle.text.specs.Text.{textFrom, inText, ready, drawString, stringLeaves}
+use Rattle.text.specs.Walk.{origin}
+use Rattle.text.specs.Text.{textFrom, inText, ready, drawString, stringLeaves, saidText}
 use Rattle.text.specs.declared.Layout.{Layout}
 use Rattle.text.specs.declared.TextDrawn.{TextDrawn}
 use Rattle.text.specs.declared.TextRows.{TextRows}
-use Rattle.promises.specs.Texts.{Spot, spotsOf, endOf, Some, Beyond, FirstBeyond, Given, IsRefused, Defined, Shown}
+use Rattle.promises.specs.Texts.{Spot, spotsOf, endOf, Some, droppedRows, Beyond, FirstBeyond, Given, IsRefusal, SomeBeyond, Defined, height, Shown}
 use Rattle.promises.proofs.TextGlyphs.{Told, told-text, inked-text}
 use Rattle.promises.proofs.TextHeight.{height-within}
 
@@ -43,19 +45,53 @@ module _ (s : List ℕ) (rec : Record) (text : List ℕ) (lay : Layout) (colour 
   abbrev ToldWhole : TextDrawn → Type 0
   ToldWhole a = Told s rec lay len a spots (endOf s rec lay text) 0
 
+  abbrev IsSome : Type 0
+  IsSome = SomeBeyond s rec text lay colour old
+
   -- ---- refused exactly when, and where
 
   first-some : (p : ℕ) (xs : List Spot) → FirstBeyond lay len s rec p xs → Some (Beyond lay len s rec) xs
   first-some p [] none = none
   first-some p (x ∷ xs) first = ⊎-elim (λ (is, b). inl b) (λ (room, later). inr (first-some p xs later)) first
 
-  refused-exactly : (a : TextDrawn) → ToldWhole a → IsRefused a ↔ Some (Beyond lay len s rec) spots
-  refused-exactly (TextDrawn.Done t) (none, height, dropped) = (λ no-refusal. absurd no-refusal, none)
-  refused-exactly (TextDrawn.Refused r) (number, first) = (λ is. first-some (r .place) spots first, λ some. tt)
+  -- there is one first glyph without room
+  first-same : (p q : ℕ) (xs : List Spot) → FirstBeyond lay len s rec p xs → FirstBeyond lay len s rec q xs → p ≡ q
+  first-same p q [] f g = absurd f
+  first-same p q (x ∷ xs) (inl (e, b)) (inl (d, c)) = sym e ∙ d
+  first-same p q (x ∷ xs) (inl (e, b)) (inr (room, g)) = absurd (room b)
+  first-same p q (x ∷ xs) (inr (room, f)) (inl (d, c)) = absurd (room c)
+  first-same p q (x ∷ xs) (inr (room, f)) (inr (free, g)) = first-same p q xs f g
 
-  refused-leaves : (a : TextDrawn) → IsRefused a → stringLeaves s rec text lay colour a old ≡ old
-  refused-leaves (TextDrawn.Done t) is = absurd is
-  refused-leaves (TextDrawn.Refused r) is = refl
+  refused-exactly : (a : TextDrawn) → ToldWhole a → IsRefusal (saidText a) ↔ IsSome
+  refused-exactly (TextDrawn.Done t) (none, height, dropped) = (λ refusal. absurd (refusal refl), λ some. absurd (none some))
+  refused-exactly (TextDrawn.Refused r) (number, first) = (λ refusal. first-some (r .place) spots first, λ some e. omega (arith, number, e))
+
+  refused-where : (a : TextDrawn) → ToldWhole a → (n p : ℕ) → (saidText a ≡ refuses (refusal n p)) ↔ ((n ≡ 16) × FirstBeyond lay len s rec p spots)
+  refused-where (TextDrawn.Done t) (none, height, dropped) n p = (
+    λ e. let v = ap (λ (x : Said). length (x .values)) e in absurd (omega (arith, v)),
+    λ (is, first). absurd (none (first-some p spots first)),
+  )
+  refused-where (TextDrawn.Refused r) (number, first) n p = (
+    λ e. (
+      sym (ap (λ (x : Said). x .number) e) ∙ number,
+      subst (λ (k : ℕ). FirstBeyond lay len s rec k spots) (ap (λ (x : Said). x .place) e) first,
+    ),
+    λ (is, other).
+        let same-number : r .number ≡ n = number ∙ sym is in
+        let same-place = first-same (r .place) p spots first other in
+        λ i. record { number = same-number i; place = same-place i; values = [] },
+  )
+
+  refused-leaves : (a : TextDrawn) → ToldWhole a → IsSome → stringLeaves s rec text lay colour a old ≡ old
+  refused-leaves (TextDrawn.Done t) (none, height, dropped) some = absurd (none some)
+  refused-leaves (TextDrawn.Refused r) told some = refl
+
+  drawn-says : (a : TextDrawn) → ToldWhole a → (IsSome → ⊥)
+      → saidText a ≡ says (pos (height s rec text lay colour old) ∷ pos (droppedRows lay len spots) ∷ [])
+  drawn-says (TextDrawn.Done t) (none, is-height, is-dropped) drawn =
+      let all : t .dropped ≡ droppedRows lay len spots = is-dropped ∙ omega arith in
+      ap₂ (λ (h d : ℕ). says (pos h ∷ pos d ∷ [])) is-height all
+  drawn-says (TextDrawn.Refused r) (number, first) drawn = absurd (drawn (first-some (r .place) spots first))
 
   -- ---- the pixels
 
@@ -76,10 +112,10 @@ module _ (s : List ℕ) (rec : Record) (text : List ℕ) (lay : Layout) (colour 
       getD-painted (inText s rec lay len (charsOf (decoded text)) origin) colour old i h ∙ ap (λ (x : Bool). cond x colour (getD old i 0)) e
 
   module _ (passed : vetted s ≡ Vetted.Passed rec) where
-    pixel-coloured : (a : TextDrawn) → ToldWhole a → (IsRefused a → ⊥) → (i : ℕ) → i < len → IsDefined i → pixel a i ≡ colour
+    pixel-coloured : (a : TextDrawn) → ToldWhole a → (IsSome → ⊥) → (i : ℕ) → i < len → IsDefined i → pixel a i ≡ colour
     pixel-coloured (TextDrawn.Done t) (none, height, dropped) drawn i h is =
         by-rule t i h true (inked-text s rec lay len i passed (charsOf (decoded text)) origin none .1 is)
-    pixel-coloured (TextDrawn.Refused r) told drawn i h is = absurd (drawn tt)
+    pixel-coloured (TextDrawn.Refused r) (number, first) drawn i h is = absurd (drawn (first-some (r .place) spots first))
 
     pixel-kept : (a : TextDrawn) → ToldWhole a → (i : ℕ) → i < len → (IsDefined i → ⊥) → pixel a i ≡ getD old i 0
     pixel-kept (TextDrawn.Done t) (none, height, dropped) i h is-none =
@@ -116,20 +152,19 @@ module _ (s : List ℕ) (rec : Record) (text : List ℕ) (lay : Layout) (colour 
             let told = subst ToldWhole (sym answer-is) (told-text s rec lay len passed (charsOf (decoded text)) origin 0) in
             record {
               refused-exactly = refused-exactly a told;
-              refused-where = λ r e. subst ToldWhole e told;
-              refused-leaves = refused-leaves a;
+              refused-where = refused-where a told;
+              refused-leaves = refused-leaves a told;
+              drawn-says = drawn-says a told;
               pixel-coloured = pixel-coloured a told;
               pixel-kept = pixel-kept a told;
               length-kept = length-kept a;
-              height-is = λ t e. subst ToldWhole e told .1;
-              dropped-is = λ t e. subst ToldWhole e told .2 ∙ (omega arith);
-              height-most = λ t e. subst (λ h. h ≤ lineHeight rec (lay .scale) * (length text + 1)) (sym (subst ToldWhole e told .1)) (height-within text s rec lay);
+              height-most = height-within text s rec lay;
             }
 
--- ---- demand 3 for texts
+-- ---- with a font that passed
 
-pub demand-3 : (s : List ℕ) (rec : Record) (text : List ℕ) (lay : Layout) → Given s rec text lay → (colour : ℕ) (old : List ℕ) → Shown s rec text lay colour old
-demand-3 s rec text lay given colour old =
+pub text-shown : (s : List ℕ) (rec : Record) (text : List ℕ) (lay : Layout) → Given s rec text lay → (colour : ℕ) (old : List ℕ) → Shown s rec text lay colour old
+text-shown s rec text lay given colour old =
     shown-when-decoded s rec text lay colour old (given .passed) (charsOf (decoded text))
     (checked-whole text (accepts text .1 (given .well-formed))) (given .short)
     (given .start-high) (given .stride-low) (given .stride-high) (given .scale-low) (given .scale-high)

@@ -1,14 +1,15 @@
--- What the panel shows of a text, in plain logic: with a font that passed vetting, "drawing the text is refused exactly when a set bit of
--- a drawn row would colour a pixel beyond the buffer. Otherwise each defined pixel has the colour, every other pixel keeps its value, and
--- the height and dropped rows are the defined ones."
+-- What the panel shows of a text, in plain logic: with a font that passed vetting, a text is refused exactly when a set bit of a drawn
+-- row would colour a pixel beyond the buffer; otherwise each defined pixel has the colour, every other pixel keeps its value, and the
+-- height and the dropped rows are the defined ones.
 use Prim.Native.Nat.{ℕ, _+_, _-_, _*_, _≤_, _<_}
 use mathlib.Core.Path.{_≡_}
 use mathlib.Core.Bool.{Bool, false}
 use mathlib.Core.Logic.{_⊎_, _↔_}
 use mathlib.Core.List.{List, [], _∷_}
+use lib.IntN.{pos}
 use lib.ListN.{length, getD}
 use lib.Dec.{eqb}
-use Rattle.reads.specs.declared.Refusal.{Refusal}
+use Rattle.reads.specs.Said.{Said, refusal, says, refuses}
 use Rattle.tables.specs.declared.Record.{Record}
 use Rattle.bitmaps.specs.Cut.{drawnRows}
 use Rattle.bitmaps.specs.Picture.{glyphBit}
@@ -24,7 +25,6 @@ use Rattle.text.specs.declared.Layout.{Layout}
 use Rattle.text.specs.declared.Pen.{Pen}
 use Rattle.text.specs.declared.Placed.{Placed}
 use Rattle.text.specs.declared.TextDrawn.{TextDrawn}
-use Rattle.text.specs.declared.TextRows.{TextRows}
 use Rattle.promises.specs.Drawing.{Coloured, Call}
 
 -- ---- the glyphs of a text
@@ -95,7 +95,7 @@ module _ (lay : Layout) (len : ℕ) where
 
 -- ---- the promise
 
--- "With a passed font, valid UTF-8 text up to 65,535 bytes and arguments within limits"
+-- "A passed font is such bytes with the record that loading gave for them"; a well-formed text, and arguments within their limits
 pub record Given (s : List ℕ) (rec : Record) (text : List ℕ) (lay : Layout) : Type 0 where
   pub passed : vetted s ≡ Vetted.Passed rec
   pub well-formed : WellFormed text
@@ -106,39 +106,49 @@ pub record Given (s : List ℕ) (rec : Record) (text : List ℕ) (lay : Layout) 
   pub scale-low : 1 ≤ lay .scale
   pub scale-high : lay .scale ≤ 64
 
-abbrev pub IsRefused : TextDrawn → Type 0
-IsRefused (TextDrawn.Done t) = ⊥
-IsRefused (TextDrawn.Refused r) = Unit {0}
+-- the answer is a refusal
+abbrev pub IsRefusal : Said → Type 0
+IsRefusal a = a .number ≡ 0 → ⊥
 
 module _ (s : List ℕ) (rec : Record) (text : List ℕ) (lay : Layout) (colour : ℕ) (old : List ℕ) where
   abbrev pub answer : TextDrawn
   answer = drawString s rec text (length old) lay
 
+  -- number, place and values of the answer
+  abbrev pub said : Said
+  said = saidText answer
+
   -- the buffer after the call
   abbrev pub new : List ℕ
   new = stringLeaves s rec text lay colour answer old
+
+  -- a set bit of a drawn row of some glyph would colour a pixel beyond the buffer
+  abbrev pub SomeBeyond : Type 0
+  SomeBeyond = Some (Beyond lay (length old) s rec) (spotsOf s rec lay text)
 
   -- pixel i is a defined one
   abbrev pub Defined : ℕ → Type 0
   Defined i = Some (Inked lay (length old) s rec i) (spotsOf s rec lay text)
 
+  -- "y + line height"
+  abbrev pub height : ℕ
+  height = endOf s rec lay text .y + lineHeight rec (lay .scale)
+
   pub record Shown : Type 0 where
     -- refused exactly when
-    pub refused-exactly : IsRefused answer ↔ Some (Beyond lay (length old) s rec) (spotsOf s rec lay text)
-    -- then it is 16 at the byte of the first such character, and no other number
-    pub refused-where : (r : Refusal) → answer ≡ TextDrawn.Refused r
-        → (r .number ≡ 16) × FirstBeyond lay (length old) s rec (r .place) (spotsOf s rec lay text)
+    pub refused-exactly : IsRefusal said ↔ SomeBeyond
+    -- and then with 16 at the byte of the first such character
+    pub refused-where : (n p : ℕ) → (said ≡ refuses (refusal n p)) ↔ ((n ≡ 16) × FirstBeyond lay (length old) s rec p (spotsOf s rec lay text))
     -- and the buffer is as it was
-    pub refused-leaves : IsRefused answer → new ≡ old
-    -- otherwise each defined pixel has the colour, every other pixel keeps its value
-    pub pixel-coloured : (IsRefused answer → ⊥) → (i : ℕ) → i < length old → Defined i → getD new i 0 ≡ colour
+    pub refused-leaves : SomeBeyond → new ≡ old
+    -- otherwise the answer is the height and the dropped rows
+    pub drawn-says : (SomeBeyond → ⊥) → said ≡ says (pos height ∷ pos (droppedRows lay (length old) (spotsOf s rec lay text)) ∷ [])
+    -- each defined pixel has the colour, every other pixel keeps its value
+    pub pixel-coloured : (SomeBeyond → ⊥) → (i : ℕ) → i < length old → Defined i → getD new i 0 ≡ colour
     pub pixel-kept : (i : ℕ) → i < length old → (Defined i → ⊥) → getD new i 0 ≡ getD old i 0
     pub length-kept : length new ≡ length old
-    -- and height and dropped rows are the defined ones
-    pub height-is : (t : TextRows) → answer ≡ TextDrawn.Done t → t .height ≡ endOf s rec lay text .y + lineHeight rec (lay .scale)
-    pub dropped-is : (t : TextRows) → answer ≡ TextDrawn.Done t → t .dropped ≡ droppedRows lay (length old) (spotsOf s rec lay text)
     -- "The height never exceeds the line height times one more than the text's bytes"
-    pub height-most : (t : TextRows) → answer ≡ TextDrawn.Done t → t .height ≤ lineHeight rec (lay .scale) * (length text + 1)
+    pub height-most : height ≤ lineHeight rec (lay .scale) * (length text + 1)
 
 -- ---- a text as a call that draws, with any font
 
