@@ -39,7 +39,7 @@ readInRange s (HexRead.Bytes n) = loadedInRange s (loaded s)
 readInRange s (HexRead.Refused r) = refusedLine (r .number)
 
 module _ (s : List ℕ) where
-  vets : (rec : Record) → vetRecord s rec ≡ vetInRange s rec
+  pub vets : (rec : Record) → vetRecord s rec ≡ vetInRange s rec
   unfolding vetRecord
   vets rec = rw (codes-in-range s rec) refl
 

@@ -13,3 +13,4 @@ mod DrawnText
 mod TextHeight
 mod Texts
 mod TextKeeps
+mod GivenF
