@@ -1,5 +1,5 @@
 // The record with one field set, by the field's number: what a caller may hand in who did not take the
-// record from loading. The fields are numbered as tests/draws/make.py lists them, those of one type
+// record from loading. The fields are numbered as tests/draws/calls.py lists them, those of one type
 // together.
 use crate::calls::size_at;
 use reads::byte_at;

@@ -1,5 +1,5 @@
-// Draws as each file that an argument names says, and writes a line for each call: what it answers, what
-// its dry run answers, and the pixels that changed. A file has one font after the other: how many bytes it
+// Draws as each file that an argument names says, and writes a line for each call: what it answers and, of
+// a call that draws, what its dry run answers and the pixels that changed. A file has one font after the other: how many bytes it
 // has and how many calls there are, 4 bytes each, then its bytes, then the calls.
 mod answers;
 mod calls;

@@ -122,7 +122,7 @@ fn page(
     say(b"\n");
 }
 
-// Those with a number are the rule book's.
+// P1 to P8 are the rule book's.
 fn drawn_pages(font: &[u8], rec: Record) {
     let none = Wrap::Never;
     page(font, rec, b"P1", b"0", 9, 3, none, 1, 0);

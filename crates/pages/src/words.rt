@@ -10,7 +10,7 @@ pub(crate) fn number(label: &[u8], n: usize) {
     io::print_decimal(1, n as u64);
 }
 
-// A character of a text as it would stand in the source: \n, \r, itself, or \xe9.
+// A byte of a text as it would stand in the source: \n, \r, itself, or \xc3.
 fn character(c: u8) {
     if c == 10 {
         say(b"\\n");

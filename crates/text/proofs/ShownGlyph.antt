@@ -16,10 +16,10 @@ use Rattle.text.specs.declared.Layout.{Layout}
 use Rattle.text.specs.declared.Pen.{Pen}
 use Rattle.text.specs.declared.Placed.{Placed}
 
-shown-rows : (s : List ℕ) (b : BitmapData) (g width p stride scale colour : ℕ) (r : Drawn) (old : List ℕ)
+shown-by-rows : (s : List ℕ) (b : BitmapData) (g width p stride scale colour : ℕ) (r : Drawn) (old : List ℕ)
     → shownLeaves s b g width p stride scale colour r old ≡ painted (inGlyph s b g width p stride scale (rowsIn r)) colour old
-shown-rows s b g width p stride scale colour (Drawn.Rows r) old = refl
-shown-rows s b g width p stride scale colour (Drawn.Refused r) old = nothing-leaves s b g width stride scale p colour old
+shown-by-rows s b g width p stride scale colour (Drawn.Rows r) old = refl
+shown-by-rows s b g width p stride scale colour (Drawn.Refused r) old = nothing-leaves s b g width stride scale p colour old
 
 pub shown-placed : (s : List ℕ) (rec : Record) (lay : Layout) (p : Placed) (q : Pen) (i : GlyphInfo) → p ≡ Placed.Glyph q i
     → (at : ℕ) → at ≡ spot lay q → (colour : ℕ) (old after : List ℕ) (r : Drawn)
@@ -28,5 +28,5 @@ pub shown-placed : (s : List ℕ) (rec : Record) (lay : Layout) (p : Placed) (q 
     → after ≡ painted (inPlaced s rec lay (length old) p) colour old
 shown-placed s rec lay p q i e at is colour old after r d shown =
     shown
-    ∙ shown-rows s (rec .bitmaps) (i .glyph .0) (i .width) (placeOf i at (lay .stride) (lay .scale)) (lay .stride) (lay .scale) colour r old
+    ∙ shown-by-rows s (rec .bitmaps) (i .glyph .0) (i .width) (placeOf i at (lay .stride) (lay .scale)) (lay .stride) (lay .scale) colour r old
     ∙ rw (e, d, is) refl

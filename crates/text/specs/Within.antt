@@ -23,11 +23,6 @@ pub record PenIn (k : ℕ) (pen : Pen) : Type 0 where
   pub x-in : pen .x ≤ k * 4194240
   pub y-in : pen .y ≤ k * 4194240
 
--- the text can be walked over
-pub record Readable (text : List ℕ) : Type 0 where
-  pub is-chars : decoded text ≡ chars (charsOf (decoded text))
-  pub is-short : length text ≤ 65535
-
 -- so has the pen of what was placed
 abbrev pub PlacedIn : ℕ → Placed → Type 0
 PlacedIn k (Placed.Skip pen) = PenIn k pen
@@ -44,3 +39,8 @@ abbrev pub placedPen : Placed → Pen → Pen
 placedPen (Placed.Skip pen) old = pen
 placedPen (Placed.Glyph pen i) old = pen
 placedPen (Placed.Refused n) old = old
+
+-- the text can be walked over
+pub record Readable (text : List ℕ) : Type 0 where
+  pub is-chars : decoded text ≡ chars (charsOf (decoded text))
+  pub is-short : length text ≤ 65535

@@ -10,8 +10,6 @@ use crate::walk::spot;
 use bitmaps::Drawn;
 use bitmaps::Rows;
 use glyphs::glyph_drawn;
-use place::GlyphInfo;
-use reads::CharCode;
 use reads::Refusal;
 use tables::Record;
 use utf8::Step;
@@ -53,8 +51,8 @@ fn placed_drawn(
     }
 }
 
-// The height and dropped rows of a text in a buffer of `len` pixels, or the first character's refusal
-// with the byte where it starts.
+// The height and dropped rows of a text in a buffer of `len` pixels, or the refusal of the first character
+// that has one, with the byte where it starts.
 pub(crate) fn text_rows(
     s: &[u8],
     rec: Record,
@@ -96,6 +94,7 @@ pub(crate) fn text_rows(
                     dropped,
                 });
             }
+            // Not of a text that is UTF-8.
             Step::Refused(r) => {
                 return TextDrawn::Refused(r);
             }

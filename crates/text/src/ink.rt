@@ -5,11 +5,7 @@ use crate::Placed;
 use crate::walk::pen_after;
 use crate::walk::placed_at;
 use crate::walk::spot;
-use bitmaps::Drawn;
 use glyphs::show_glyph;
-use place::GlyphInfo;
-use reads::CharCode;
-use reads::Refusal;
 use tables::Record;
 use utf8::Step;
 use utf8::step_at;
@@ -81,6 +77,7 @@ pub(crate) fn show_text(
             Step::End => {
                 return;
             }
+            // Not of a text that is UTF-8.
             Step::Refused(r) => {
                 return;
             }

@@ -30,7 +30,7 @@ pub struct Pen {
     pub y: usize,
 }
 
-// The line height of a text that can be walked over, or why none can be.
+// The line height of a text, or why it is refused before its first character.
 pub enum Ready {
     Line(usize),
     Refused(Refusal),
@@ -51,6 +51,7 @@ pub struct TextRows {
     pub dropped: usize,
 }
 
+// A text that was drawn, or the refusal.
 pub enum TextDrawn {
     Done(TextRows),
     Refused(Refusal),

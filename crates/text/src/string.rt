@@ -2,12 +2,10 @@
 use crate::Layout;
 use crate::Ready;
 use crate::TextDrawn;
-use crate::TextRows;
 use crate::Wrap;
 use crate::answer::text_rows;
 use crate::ink::show_text;
 use outcome::ok_place;
-use place::Extent;
 use place::Sized;
 use place::bounds_sized;
 use reads::Refusal;
@@ -82,10 +80,11 @@ pub fn text_check(
 }
 
 // Draws a text from `start` on, and answers its height in pixels and how many rows of its glyphs were cut
-// off at the buffer's end: 0 says that the page is complete. Each glyph is drawn where the pen stands, as
-// `glyphs::draw_char` draws it, and moves the pen right by its width. A newline, and a glyph that would
-// reach `wrap` pixels from the line's beginning, move the pen to the next line first; a carriage return and
-// a code without a glyph are skipped; a glyph without a bitmap draws nothing but takes its place.
+// off at the buffer's end; 0 says that no row was. Each glyph is drawn where the pen stands, as
+// `glyphs::draw_char` draws it, and moves the pen right by its width. A newline moves the pen to the next
+// line; so does a glyph that would reach `wrap` pixels from the line's beginning, before it is drawn, at the
+// beginning too, and by one line at most. A carriage return and a code without a glyph are skipped, and not
+// counted; a glyph without a bitmap draws nothing, but wraps and moves the pen like any other.
 //
 // Refused, and then no pixel is coloured: 6 for a record that fails its test with these bytes, 15 for a
 // start, stride or scale outside its limits (`outcome::ok_place`), both with place 0; 19 for a text over

@@ -22,7 +22,7 @@ pub struct Lead {
     pub high: u8,
 }
 
-// Whether a text is UTF-8; if not, 19 with the first byte at which no character starts.
+// Whether a text is UTF-8; if not, 19 with the first byte of the first ill-formed sequence.
 pub enum Checked {
     Whole,
     Refused(Refusal),

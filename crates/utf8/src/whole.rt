@@ -6,7 +6,8 @@ use reads::CharCode;
 ghost use mathlib.Core.Path.{_≡_};
 ghost use Rattle.utf8.specs.Decode.{decoded, checked};
 
-// Whether a text is UTF-8. Refused: 19 with the first byte of the first ill-formed sequence.
+// Whether a text, of any length, is UTF-8. Refused: 19 with the first byte of the first ill-formed
+// sequence.
 pub fn check(text: &[u8]) -> Checked
     ensures { λ r. ⌜ r ≡ checked (decoded (now (text .entry))) ⌝ }
 {
