@@ -49,7 +49,7 @@ use Rattle.glyphs.specs.Char.{withInfo, charOf, drawChar, saidChar}
 use Rattle.glyphs.specs.Unpack.{glyphUnpacked, unpackGlyph}
 use Rattle.glyphs.specs.declared.CharDrawn.{CharDrawn}
 use Rattle.utf8.specs.Decode.{Char, Decoded, chars, refused, decoded, charsOf, checked}
-use Rattle.utf8.proofs.Accepts.{refuses}
+use Rattle.utf8.proofs.Accepts.{refuses-at}
 use Rattle.text.specs.Walk.{origin, wrapped, placeInfo, placeFound, placed, spot, placedDrawn, penAfter}
 use Rattle.text.specs.Text.{afterChar, textFrom, readyText, ready, whenReady, drawString, saidText}
 use Rattle.text.specs.declared.Layout.{Layout}
@@ -208,7 +208,7 @@ module _ (s : List ℕ) (rec : Record) (lay : Layout) (len : ℕ) where
   -- what refuses before the first character
   ready-past : (text : List ℕ) (d : Decoded) → decoded text ≡ d → (a : TextDrawn) → NotSix (saidText a) → NotSix (saidText (whenReady (readyText rec lay d) a))
   ready-past text (chars cs) e a h = either (λ (r : Ready). NotSix (saidText (whenReady r a))) (boundsHold (boundsOf rec)) h (λ e. omega arith)
-  ready-past text (refused r) e a h = λ six. omega (arith, refuses text r .0 (ap checked e) .0)
+  ready-past text (refused r) e a h = λ six. omega (arith, refuses-at text r .0 (ap checked e) .0)
 
 -- each call, for whatever is asked
 module _ (s : List ℕ) (rec : Record) where

@@ -126,8 +126,8 @@ module _ (text : List ℕ) where
 pub accepts : (text : List ℕ) → (checked (decoded text) ≡ Checked.Whole) ↔ WellFormed text
 accepts text = (whole-well text (decoded text) (told-all text), well-accepted text)
 
-pub refuses : (text : List ℕ) (r : Refusal) → (checked (decoded text) ≡ Checked.Refused r) ↔ ((r .number ≡ 19) × IllFormed text (r .place))
-refuses text r = (
+pub refuses-at : (text : List ℕ) (r : Refusal) → (checked (decoded text) ≡ Checked.Refused r) ↔ ((r .number ≡ 19) × IllFormed text (r .place))
+refuses-at text r = (
   refused-ill text (decoded text) r (told-all text),
   λ x.
       let same : refusal 19 (r .place) ≡ r = λ i. record { number = sym (x .0) i; place = r .place } in

@@ -46,27 +46,37 @@ four : (a b c : Bool) (x y : Step) → cond a (cond b (cond c x y) y) y ≡ cond
 four true b c x y = three b c x y
 four false b c x y = refl
 
-inner-is : (n low high b₁ : ℕ) (s : List ℕ) (i : ℕ) → n ≤ 4 → (2 ≤ n → 1 ≤ low)
-    → (code : CharCode) × (inner n low high b₁ s i ≡ cond (leb 1 n && begins (after n (range low high)) (drop (i + 1) s)) (Step.Char code (i + n)) (illFormed i))
+-- the code that n bytes make, 4 at most
+abbrev pub codeOf : ℕ → ℕ → ℕ → ℕ → ℕ → ℕ
+codeOf zero b₁ b₂ b₃ b₄ = 0
+codeOf (suc zero) b₁ b₂ b₃ b₄ = b₁
+codeOf (suc (suc zero)) b₁ b₂ b₃ b₄ = b₁ % 32 * 64 + b₂ % 64
+codeOf (suc (suc (suc zero))) b₁ b₂ b₃ b₄ = b₁ % 16 * 4096 + b₂ % 64 * 64 + b₃ % 64
+codeOf (suc (suc (suc (suc n)))) b₁ b₂ b₃ b₄ = b₁ % 8 * 262144 + b₂ % 64 * 4096 + b₃ % 64 * 64 + b₄ % 64
+
+abbrev pub codeAt : List ℕ → ℕ → ℕ → ℕ
+codeAt s i n = codeOf n (byteAt s i) (byteAt s (i + 1)) (byteAt s (i + 2)) (byteAt s (i + 3))
+
+inner-is : (n low high : ℕ) (s : List ℕ) (i : ℕ) → n ≤ 4 → (2 ≤ n → 1 ≤ low)
+    → inner n low high (byteAt s i) s i ≡ cond (leb 1 n && begins (after n (range low high)) (drop (i + 1) s)) (char (codeAt s i n) (i + n)) (illFormed i)
 unfolding longer
-inner-is zero low high b₁ s i h l = (record { 0 = 0 }, refl)
-inner-is (suc zero) low high b₁ s i h l = (record { 0 = b₁ }, refl)
-inner-is (suc (suc zero)) low high b₁ s i h l =
-    (record { 0 = b₁ % 32 * 64 + byteAt s (i + 1) % 64 }, rw (begins-at s (i + 1) (i + 2) (omega arith) (range low high) [] (l (omega arith))) (two (between low high (byteAt s (i + 1))) _ _))
-inner-is (suc (suc (suc zero))) low high b₁ s i h l =
-    (record { 0 = b₁ % 16 * 4096 + byteAt s (i + 1) % 64 * 64 + byteAt s (i + 2) % 64 }, rw (begins-at s (i + 1) (i + 2) (omega arith) (range low high) (tail ∷ []) (l (omega arith)), begins-at s (i + 2) (i + 3) (omega arith) tail [] (omega arith)) (three (between low high (byteAt s (i + 1))) (continues (byteAt s (i + 2))) _ _))
-inner-is (suc (suc (suc (suc zero)))) low high b₁ s i h l =
-    (record { 0 = b₁ % 8 * 262144 + byteAt s (i + 1) % 64 * 4096 + byteAt s (i + 2) % 64 * 64 + byteAt s (i + 3) % 64 }, rw (begins-at s (i + 1) (i + 2) (omega arith) (range low high) (tail ∷ tail ∷ []) (l (omega arith)), begins-at s (i + 2) (i + 3) (omega arith) tail (tail ∷ []) (omega arith), begins-at s (i + 3) (i + 4) (omega arith) tail [] (omega arith)) (four (between low high (byteAt s (i + 1))) (continues (byteAt s (i + 2))) (continues (byteAt s (i + 3))) _ _))
-inner-is (suc (suc (suc (suc (suc n))))) low high b₁ s i h l = absurd (omega arith)
+inner-is zero low high s i h l = refl
+inner-is (suc zero) low high s i h l = refl
+inner-is (suc (suc zero)) low high s i h l =
+    rw (begins-at s (i + 1) (i + 2) (omega arith) (range low high) [] (l (omega arith))) (two (between low high (byteAt s (i + 1))) _ _)
+inner-is (suc (suc (suc zero))) low high s i h l =
+    rw (begins-at s (i + 1) (i + 2) (omega arith) (range low high) (tail ∷ []) (l (omega arith)), begins-at s (i + 2) (i + 3) (omega arith) tail [] (omega arith)) (three (between low high (byteAt s (i + 1))) (continues (byteAt s (i + 2))) _ _)
+inner-is (suc (suc (suc (suc zero)))) low high s i h l =
+    rw (begins-at s (i + 1) (i + 2) (omega arith) (range low high) (tail ∷ tail ∷ []) (l (omega arith)), begins-at s (i + 2) (i + 3) (omega arith) tail (tail ∷ []) (omega arith), begins-at s (i + 3) (i + 4) (omega arith) tail [] (omega arith)) (four (between low high (byteAt s (i + 1))) (continues (byteAt s (i + 2))) (continues (byteAt s (i + 3))) _ _)
+inner-is (suc (suc (suc (suc (suc n))))) low high s i h l = absurd (omega arith)
 
 module _ (s : List ℕ) (i : ℕ) where
-  step-is : i < length s → let l = leadOf (byteAt s i) in (code : CharCode) × (stepAt s i ≡ cond (complete l s i) (Step.Char code (i + l .size)) (illFormed i))
+  step-is : i < length s → let l = leadOf (byteAt s i) in stepAt s i ≡ cond (complete l s i) (char (codeAt s i (l .size)) (i + l .size)) (illFormed i)
   unfolding stepAt
   step-is h =
       let l = leadOf (byteAt s i) in
       let bounds = lead-bounds (byteAt s i) in
-      let g = inner-is (l .size) (l .low) (l .high) (byteAt s i) s i (bounds .0) (bounds .1) in
-      (g .0, rw (lt-ltb i (length s) h) (g .1))
+      rw (lt-ltb i (length s) h) (inner-is (l .size) (l .low) (l .high) s i (bounds .0) (bounds .1))
 
   pub step-end : length s ≤ i → stepAt s i ≡ Step.End
   unfolding stepAt
@@ -82,7 +92,7 @@ module _ (s : List ℕ) (i : ℕ) where
   abbrev pub Stands : ℕ → List ℕ → Type 0
   Stands next q = Sequence q × (next ≡ i + length q) × (drop i s ≡ q ++ drop next s)
 
-  sequence-here : i < length s → complete (leadOf (byteAt s i)) s i ≡ true → (q : List ℕ) × Stands (i + leadOf (byteAt s i) .size) q
+  sequence-here : i < length s → let l = leadOf (byteAt s i) in complete l s i ≡ true → (q : List ℕ) × Stands (i + l .size) q × (codeAt s i (l .size) ≡ codeAt s i (length q))
   sequence-here h t =
       let l = leadOf (byteAt s i) in
       let m = length (later l) in
@@ -91,10 +101,11 @@ module _ (s : List ℕ) (i : ℕ) where
       let some = leb-true 1 (l .size) (u .0) in
       let g = begins-fits (later l) rest (u .1) in
       let e = after-length (l .size) (range (l .low) (l .high)) some in
-      (byteAt s i ∷ take m rest, (follow-sequence (byteAt s i) (take m rest) (some, g .1), omega (arith, e, length-take-le m rest (g .0)), cut m (l .size) h e))
+      let size : l .size ≡ length (byteAt s i ∷ take m rest) = omega (arith, e, length-take-le m rest (g .0)) in
+      (byteAt s i ∷ take m rest, (follow-sequence (byteAt s i) (take m rest) (some, g .1), ap (λ (n : ℕ). i + n) size, cut m (l .size) h e), ap (codeAt s i) size)
 
   abbrev Means : Step → Type 0
-  Means (Step.Char code next) = (q : List ℕ) × Stands next q
+  Means (Step.Char code next) = (q : List ℕ) × Stands next q × (code .0 ≡ codeAt s i (length q))
   Means Step.End = length s ≤ i
   Means (Step.Refused r) = (r ≡ refusal 19 i) × (i < length s)
 
@@ -103,12 +114,15 @@ module _ (s : List ℕ) (i : ℕ) where
       split (ltb i (length s))
       (λ t.
       let h = ltb-true i (length s) t in
-      rw (step-is h .1)
+      rw (step-is h)
       (split (complete (leadOf (byteAt s i)) s i) (λ u. rw u (sequence-here h u)) (λ u. rw u (refl, h))))
       (λ t. rw (step-end (ltb-false i (length s) t)) (ltb-false i (length s) t))
 
+  pub step-coded : (code : CharCode) (next : ℕ) → stepAt s i ≡ Step.Char code next → (q : List ℕ) × Stands next q × (code .0 ≡ codeAt s i (length q))
+  step-coded code next e = rw e at step-means
+
   pub step-sequence : (code : CharCode) (next : ℕ) → stepAt s i ≡ Step.Char code next → (q : List ℕ) × Stands next q
-  step-sequence code next e = rw e at step-means
+  step-sequence code next e = let g = step-coded code next e in (g .0, g .1)
 
   pub step-last : stepAt s i ≡ Step.End → length s ≤ i
   step-last e = rw e at step-means
@@ -123,8 +137,8 @@ module _ (s : List ℕ) (i : ℕ) where
       let b = fits-begins (later l) bs rest (g .1) in
       let size : l .size ≡ suc (length bs) = omega (arith, b .1, after-length (l .size) (range (l .low) (l .high)) (g .0)) in
       let w : complete l s i ≡ true = rw (le-leb 1 (l .size) (g .0), e) (b .0) in
-      let x = step-is h in
-      (x .0, x .1 ∙ ap (λ (t : Bool). cond t (Step.Char (x .0) (i + l .size)) (illFormed i)) w ∙ ap (λ (n : ℕ). Step.Char (x .0) (i + n)) size)
+      let code : CharCode = record { 0 = codeAt s i (l .size) } in
+      (code, step-is h ∙ ap (λ (t : Bool). cond t (Step.Char code (i + l .size)) (illFormed i)) w ∙ ap (λ (n : ℕ). Step.Char code (i + n)) size)
 
   pub sequence-step : (q rest : List ℕ) → Sequence q → drop i s ≡ q ++ rest → (code : CharCode) × (stepAt s i ≡ Step.Char code (i + length q))
   sequence-step [] rest f e = absurd (sequence-some f)

@@ -5,3 +5,4 @@ pub mod Characters
 pub mod Walk
 pub mod Rest
 pub mod Accepts
+pub mod Spells

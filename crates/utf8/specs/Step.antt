@@ -18,7 +18,7 @@ char code next = Step.Char (record { 0 = code }) next
 abbrev pub illFormed : ℕ → Step
 illFormed i = Step.Refused (refusal 19 i)
 
--- the character at i of n bytes, 2 to 4, of which the first two fit their line
+-- the character at i of n bytes, 2 to 4, of which the first two fit their line; its code is that of Table 3-6, which `spells` proves
 unfoldable pub longer : ℕ → ℕ → ℕ → ℕ → ℕ → ℕ → Step
 longer i n b₁ b₂ b₃ b₄ =
     cond (eqb n 2) (char (b₁ % 32 * 64 + b₂ % 64) (i + 2))

@@ -2,7 +2,6 @@
 use crate::Checked;
 use crate::Step;
 use crate::stepping::step_at;
-use reads::CharCode;
 ghost use mathlib.Core.Path.{_≡_};
 ghost use Rattle.utf8.specs.Decode.{decoded, checked};
 
