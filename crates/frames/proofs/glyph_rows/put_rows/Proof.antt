@@ -22,36 +22,36 @@ Inv-loop s b i out₀ at count stride row₀ n₀ k₀ out row n k = (k ≤ i .h
 abbrev μ-loop : tie.MeasureT-loop
 μ-loop s b i out₀ at count stride row₀ n₀ k₀ out row n k = i .height - k
 
--- src/glyph_rows.rt:47:17
+-- src/glyph_rows.rt:46:17
 row-bytes-requires : tie.Need-row-bytes-requires Inv-loop μ-loop
 row-bytes-requires c κs = search needs
 
--- src/glyph_rows.rt:47:17
+-- src/glyph_rows.rt:46:17
 cast-count : tie.Need-cast-count Inv-loop μ-loop
 cast-count c = search needs
 
--- src/glyph_rows.rt:48:18
+-- src/glyph_rows.rt:47:18
 row-stride-requires : tie.Need-row-stride-requires Inv-loop μ-loop
 row-stride-requires c κs = search needs
 
--- src/glyph_rows.rt:48:18
+-- src/glyph_rows.rt:47:18
 cast-stride : tie.Need-cast-stride Inv-loop μ-loop
 cast-stride c = search needs
 
--- src/glyph_rows.rt:49:19
+-- src/glyph_rows.rt:48:19
 offset-of-requires : tie.Need-offset-of-requires Inv-loop μ-loop
 offset-of-requires c κs = search needs
 
--- src/glyph_rows.rt:49:19
+-- src/glyph_rows.rt:48:19
 cast-row : tie.Need-cast-row Inv-loop μ-loop
 cast-row c = search needs
 
--- src/glyph_rows.rt:52:5
+-- src/glyph_rows.rt:51:5
 loop-holds : tie.Need-loop-holds Inv-loop μ-loop
 unfolding hexAll rowsFrom
 loop-holds c = search needs
 
--- src/glyph_rows.rt:53:9
+-- src/glyph_rows.rt:52:9
 put-row-requires : tie.Need-put-row-requires Inv-loop μ-loop
 put-row-requires c κs =
     let loop = c .before .before .before .loop in
@@ -68,22 +68,22 @@ put-row-requires c κs =
       c .before .before .before .before .before .before .row-bytes .ensures,
     )
 
--- src/glyph_rows.rt:54:9
+-- src/glyph_rows.rt:53:9
 add-row : tie.Need-add-row Inv-loop μ-loop
 add-row c =
     let loop = c .before .before .before .before .before .before .loop in
     let stride = c .before .before .before .before .before .before .before .before .row-stride .result in
     omega (arith, mul-le-mul {n₁ = loop .k} {m₁ = stride} {n₂ = 65535} {m₂ = 4294967295} (omega arith) (omega arith))
 
--- src/glyph_rows.rt:55:9
+-- src/glyph_rows.rt:54:9
 add-k : tie.Need-add-k Inv-loop μ-loop
 add-k c = search needs
 
--- src/glyph_rows.rt:52:5
+-- src/glyph_rows.rt:51:5
 loop-less : tie.Need-loop-less Inv-loop μ-loop
 loop-less c = search needs
 
--- src/glyph_rows.rt:52:5
+-- src/glyph_rows.rt:51:5
 loop-again : tie.Need-loop-again Inv-loop μ-loop
 loop-again c =
     let loop = c .before .before .before .before .before .before .loop in

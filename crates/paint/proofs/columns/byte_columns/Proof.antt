@@ -19,19 +19,19 @@ Inv-loop buf₀ byte at stride scale colour k₀ buf k =
 abbrev μ-loop : tie.MeasureT-loop
 μ-loop buf₀ byte at stride scale colour k₀ buf k = 8 - k
 
--- src/columns.rt:31:5
+-- src/columns.rt:38:5
 loop-holds : tie.Need-loop-holds Inv-loop μ-loop
 loop-holds c = (omega arith, refl, no-column _ _ _ _ _ _)
 
--- src/columns.rt:32:22
+-- src/columns.rt:39:22
 sub-if1 : tie.Need-sub-if1 Inv-loop μ-loop
 sub-if1 c = omega arith
 
--- src/columns.rt:32:22
+-- src/columns.rt:39:22
 cast-if1 : tie.Need-cast-if1 Inv-loop μ-loop
 cast-if1 c = omega arith
 
--- src/columns.rt:32:13
+-- src/columns.rt:39:13
 shr-if1 : tie.Need-shr-if1 Inv-loop μ-loop
 shr-if1 c = omega arith
 
@@ -43,27 +43,27 @@ inside c =
     let p = c .before .before .before .before .before .pre in
     block-inside _ _ _ _ _ _ (p .1) (p .0) _ (c .before .before .loop-test .taken) (eq-eqb _ _ (c .before .if1 .taken))
 
--- src/columns.rt:33:35
+-- src/columns.rt:40:35
 mul-block : tie.Need-mul-block Inv-loop μ-loop
 mul-block c = omega (arith, inside c)
 
--- src/columns.rt:33:30
+-- src/columns.rt:40:30
 add-block : tie.Need-add-block Inv-loop μ-loop
 add-block c = omega (arith, inside c)
 
--- src/columns.rt:33:13
+-- src/columns.rt:40:13
 block-requires : tie.Need-block-requires Inv-loop μ-loop
 block-requires c κs = omega (arith, inside c)
 
--- src/columns.rt:35:9
+-- src/columns.rt:42:9
 add-k : tie.Need-add-k Inv-loop μ-loop
 add-k c = omega arith
 
--- src/columns.rt:31:5
+-- src/columns.rt:38:5
 loop-less : tie.Need-loop-less Inv-loop μ-loop
 loop-less c = omega arith
 
--- src/columns.rt:31:5
+-- src/columns.rt:38:5
 loop-again : tie.Need-loop-again Inv-loop μ-loop
 unfolding column
 loop-again c =
