@@ -84,7 +84,7 @@ module _ (lay : Layout) (len : ℕ) where
     Inked i x =
         Coloured (glyphBit s (rec .bitmaps) (x .info .glyph .0) (x .info .width)) (spotPlace x) (lay .stride) (lay .scale) (x .info .width) (spotRows x) i
 
-    -- "a set bit of a drawn row would colour a pixel beyond the buffer"
+    -- a set bit of a drawn row would colour a pixel beyond the buffer
     abbrev pub Beyond : Spot → Type 0
     Beyond x = (i : ℕ) × (len ≤ i) × Inked i x
 
