@@ -5,7 +5,7 @@ use reads::CharCode;
 use reads::Refusal;
 use reads::byte_at;
 ghost use mathlib.Core.Path.{_≡_};
-ghost use Prim.Native.Nat.{_<_, _^_};
+ghost use Prim.Native.Nat.{_+_, _*_, _%_, _≤_, _<_, _^_};
 ghost use Rattle.utf8.specs.Table.{leadOf, continues};
 ghost use Rattle.utf8.specs.Step.{illFormed, longer, stepAt};
 
@@ -68,29 +68,34 @@ fn ill_formed(i: usize) -> Step
     })
 }
 
+// A code with the six bits of one more byte.
+fn six_more(code: u32, b: u8) -> u32
+    requires { ⌜ code ≤ 32767 ⌝ }
+    ensures { λ r. ⌜ r ≡ code * 64 + b % 64 ⌝ }
+{
+    code * 64 + (b % 64) as u32
+}
+
 // The character at i of n bytes, 2 to 4, of which the first two fit their line.
 fn longer(i: usize, n: u8, b1: u8, b2: u8, b3: u8, b4: u8) -> Step
     requires { ⌜ i < 2 ^ 63 ⌝ }
     ensures { λ r. ⌜ r ≡ longer i n b1 b2 b3 b4 ⌝ }
 {
     if n == 2 {
-        let code = (b1 % 32) as u32 * 64 + (b2 % 64) as u32;
+        let code = six_more((b1 % 32) as u32, b2);
         return Step::Char(CharCode(code), i + 2);
     }
     if !continues(b3) {
         return ill_formed(i);
     }
     if n == 3 {
-        let code = (b1 % 16) as u32 * 4096 + (b2 % 64) as u32 * 64 + (b3 % 64) as u32;
+        let code = six_more(six_more((b1 % 16) as u32, b2), b3);
         return Step::Char(CharCode(code), i + 3);
     }
     if !continues(b4) {
         return ill_formed(i);
     }
-    let code = (b1 % 8) as u32 * 262144
-        + (b2 % 64) as u32 * 4096
-        + (b3 % 64) as u32 * 64
-        + (b4 % 64) as u32;
+    let code = six_more(six_more(six_more((b1 % 8) as u32, b2), b3), b4);
     Step::Char(CharCode(code), i + 4)
 }
 

@@ -7,66 +7,66 @@ use borrow.Author.Needs.{needs}
 use Rattle.utf8.proofs.stepping.step_at.Statement.{statement}
 use Rattle.utf8.proofs.stepping.step_at.Tie as tie
 
--- src/stepping.rt:104:9
+-- src/stepping.rt:109:9
 returns : tie.Need-returns
 unfolding stepAt
 returns c = simp (le-ltb _ _ (c .if1 .taken))
 
--- src/stepping.rt:106:14
+-- src/stepping.rt:111:14
 shared-slice-read-b1 : tie.Need-shared-slice-read-b1
 shared-slice-read-b1 c = search needs
 
--- src/stepping.rt:107:9
+-- src/stepping.rt:112:9
 lead-of-requires : tie.Need-lead-of-requires
 lead-of-requires c κs = search needs
 
--- src/stepping.rt:112:9
+-- src/stepping.rt:117:9
 ill-formed-requires : tie.Need-ill-formed-requires
 ill-formed-requires c κs = search needs
 
--- src/stepping.rt:112:9
+-- src/stepping.rt:117:9
 returns-2 : tie.Need-returns-2
 unfolding stepAt
 returns-2 c = simp (c .ill-formed .ensures, lt-ltb _ _ (c .before .before .before .before .if1 .left), ← c .before .before .lead-of .ensures, eq-eqb _ _ (c .before .if2 .taken))
 
--- src/stepping.rt:115:36
+-- src/stepping.rt:120:36
 cast-t13 : tie.Need-cast-t13
 cast-t13 c = omega (arith, c .before .before .before .shared-slice-known2 .given (c .before .before .before .before .before .before .args .i))
 
--- src/stepping.rt:115:48
+-- src/stepping.rt:120:48
 add-t15 : tie.Need-add-t15
 add-t15 c = search needs
 
--- src/stepping.rt:115:9
+-- src/stepping.rt:120:9
 returns-3 : tie.Need-returns-3
 unfolding stepAt
 returns-3 c = simp (lt-ltb _ _ (c .before .before .before .before .if1 .left), ← c .before .before .lead-of .ensures, ne-eqb _ _ (c .before .if2 .left), eq-eqb _ _ (c .if3 .taken))
 
--- src/stepping.rt:117:9
+-- src/stepping.rt:122:9
 byte-at-requires : tie.Need-byte-at-requires
 byte-at-requires c κs = search needs
 
--- src/stepping.rt:119:37
+-- src/stepping.rt:124:37
 byte-at-requires-2 : tie.Need-byte-at-requires-2
 byte-at-requires-2 c κs = search needs
 
--- src/stepping.rt:119:58
+-- src/stepping.rt:124:58
 byte-at-requires-3 : tie.Need-byte-at-requires-3
 byte-at-requires-3 c κs = search needs
 
--- src/stepping.rt:119:9
+-- src/stepping.rt:124:9
 longer-requires : tie.Need-longer-requires
 longer-requires c κs = search needs
 
--- src/stepping.rt:119:9
+-- src/stepping.rt:124:9
 returns-4 : tie.Need-returns-4
 returns-4 c = c .longer .ensures ∙ sym (step-longer (c .before .before .before .before .before .before .before .before .before .before .before .args .text .now) (c .before .before .before .before .before .before .before .before .before .before .before .args .i) _ _ _ (c .before .before .before .before .before .before .before .before .before .if1 .left) refl (c .before .before .before .before .before .before .before .lead-of .ensures) (c .before .before .before .before .before .before .if2 .left) (c .before .before .before .before .before .if3 .left) (c .before .before .before .before .byte-at .ensures) _ _ (c .before .before .byte-at2 .ensures) (c .before .byte-at3 .ensures) (c .before .before .before .if4 .taken))
 
--- src/stepping.rt:121:5
+-- src/stepping.rt:126:5
 ill-formed-requires-2 : tie.Need-ill-formed-requires-2
 ill-formed-requires-2 c κs = search needs
 
--- src/stepping.rt:100:1
+-- src/stepping.rt:105:1
 returns-5 : tie.Need-returns-5
 returns-5 c = c .ill-formed2 .ensures ∙ sym (step-second (c .before .before .before .before .before .before .before .before .before .args .text .now) (c .before .before .before .before .before .before .before .before .before .args .i) _ _ _ (c .before .before .before .before .before .before .before .if1 .left) refl (c .before .before .before .before .before .lead-of .ensures) (c .before .before .before .before .if2 .left) (c .before .before .before .if3 .left) (c .before .before .byte-at .ensures) (c .before .if4 .left))
 
