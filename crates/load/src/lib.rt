@@ -1,9 +1,12 @@
 // Loading: the directory and the tables it names, to a record or a refusal from 1 to 8.
+mod blanks;
 mod gather;
 
 use crate::gather::add;
 use crate::gather::finish;
 use crate::gather::nothing_yet;
+pub use blanks::blank;
+pub use blanks::no_metrics;
 use reads::Refusal;
 use reads::u32_at;
 use tables::Record;

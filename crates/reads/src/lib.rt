@@ -10,9 +10,11 @@ ghost use lib.Dec.{leb};
 ghost use Rattle.reads.specs.Num.{byteAt, digitAt, digits, numAt, u16At, u32At, i16At, i32At, less128};
 
 // A character code. Never a glyph index: the two are different types.
+#[repr(C)]
 pub struct CharCode(pub u32);
 
 // The number of a glyph in a font's tables.
+#[repr(C)]
 pub struct GlyphIndex(pub u16);
 
 // Why a call has no result: the refusal's number, 1 to 20, and where, by the rule for that number.

@@ -14,48 +14,48 @@ Inv-loop s count g₀ k₀ g k = (k ≤ count) × (entriesFrom s (count - k) k g
 abbrev μ-loop : tie.MeasureT-loop
 μ-loop s count g₀ k₀ g k = count - k
 
--- src/lib.rt:114:9
+-- src/lib.rt:117:9
 nothing-yet-requires : tie.Need-nothing-yet-requires Inv-loop μ-loop
 nothing-yet-requires c κs = search needs
 
--- src/lib.rt:116:5
+-- src/lib.rt:119:5
 loop-holds : tie.Need-loop-holds Inv-loop μ-loop
 loop-holds c = (search needs, simp (sub-zero, c .nothing-yet .ensures))
 
--- src/lib.rt:117:15
+-- src/lib.rt:120:15
 entry-at-requires : tie.Need-entry-at-requires Inv-loop μ-loop
 entry-at-requires c κs = search needs
 
--- src/lib.rt:118:27
+-- src/lib.rt:121:27
 enum-known-h : tie.Need-enum-known-h Inv-loop μ-loop
 enum-known-h c = search needs
 
--- src/lib.rt:121:30
+-- src/lib.rt:124:30
 enum-known-number : tie.Need-enum-known-number Inv-loop μ-loop
 enum-known-number c = search needs
 
--- src/lib.rt:122:17
+-- src/lib.rt:125:17
 returns : tie.Need-returns Inv-loop μ-loop
 returns c = entries-stop _ _ _ _ _ (c .before .before .before .before .loop-test .taken) (sym (c .before .before .before .entry-at .ensures) ∙ c .before .number .given .1) ∙ c .before .before .before .before .before .loop .inv .1
 
--- src/lib.rt:125:9
+-- src/lib.rt:128:9
 add-k : tie.Need-add-k Inv-loop μ-loop
 add-k c = search needs
 
--- src/lib.rt:116:5
+-- src/lib.rt:119:5
 loop-less : tie.Need-loop-less Inv-loop μ-loop
 loop-less c = search needs
 
--- src/lib.rt:116:5
+-- src/lib.rt:119:5
 loop-again : tie.Need-loop-again Inv-loop μ-loop
 loop-again c =
     (search needs, entries-next _ _ _ _ _ (c .before .before .before .before .loop-test .taken) (sym (c .before .before .before .entry-at .ensures) ∙ c .before .h .given .1) ∙ c .before .before .before .before .before .loop .inv .1)
 
--- src/lib.rt:127:5
+-- src/lib.rt:130:5
 finish-requires : tie.Need-finish-requires Inv-loop μ-loop
 finish-requires c κs = search needs
 
--- src/lib.rt:110:1
+-- src/lib.rt:113:1
 returns-2 : tie.Need-returns-2 Inv-loop μ-loop
 returns-2 c = c .finish .ensures ∙ entries-end _ _ _ _ (c .before .loop-test .left) ∙ c .before .before .loop .inv .1
 

@@ -1,16 +1,16 @@
 use borrow.Author.Needs.{needs}
-use Rattle.load.proofs.gather.no_accelerators.Statement.{statement}
-use Rattle.load.proofs.gather.no_accelerators.Tie as tie
+use Rattle.load.proofs.blanks.no_accelerators.Statement.{statement}
+use Rattle.load.proofs.blanks.no_accelerators.Tie as tie
 
--- src/gather.rt:36:9
+-- src/blanks.rt:30:9
 no-metrics-requires : tie.Need-no-metrics-requires
 no-metrics-requires c κs = search needs
 
--- src/gather.rt:37:9
+-- src/blanks.rt:31:9
 no-metrics-requires-2 : tie.Need-no-metrics-requires-2
 no-metrics-requires-2 c κs = search needs
 
--- src/gather.rt:33:1
+-- src/blanks.rt:27:1
 returns : tie.Need-returns
 returns c = rw (c .before .no-metrics .ensures, c .no-metrics2 .ensures)
 
