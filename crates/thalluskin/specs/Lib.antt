@@ -1,0 +1,4 @@
+pub mod Reading
+pub mod Placing
+pub mod Drawing
+pub mod Texts

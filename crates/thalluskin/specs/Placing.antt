@@ -1,0 +1,17 @@
+-- What the exported functions of placing answer.
+use Rattle.place.specs.declared.GlyphInfo.{GlyphInfo}
+use Rattle.place.specs.declared.Sized.{Sized}
+use Rattle.place.specs.declared.Prepared.{Prepared}
+use Rattle.thalluskin.specs.declared.ExtentAnswer.{ExtentAnswer}
+use Rattle.thalluskin.specs.declared.InfoAnswer.{InfoAnswer}
+
+abbrev pub extentAnswer : Sized → ExtentAnswer
+extentAnswer (Sized.Dimensions d) = record { refusal = 0; place = 0; extent = d }
+extentAnswer (Sized.Refused r) = record { refusal = r .number; place = r .place; extent = record { height = 0; width = 0 } }
+
+abbrev pub noInfo : GlyphInfo
+noInfo = record { glyph = record { 0 = 0 }; width = 0; height = 0; «pad_top» = 0; «pad_left» = 0 }
+
+abbrev pub infoAnswer : Prepared → InfoAnswer
+infoAnswer (Prepared.Info i) = record { refusal = 0; place = 0; info = i }
+infoAnswer (Prepared.Refused r) = record { refusal = r .number; place = r .place; info = noInfo }

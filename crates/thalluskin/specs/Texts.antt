@@ -1,0 +1,27 @@
+-- What the exported functions of texts take and answer.
+use Prim.Native.Nat.{ℕ}
+use mathlib.Core.Bool.{true, false, cond}
+use lib.Dec.{eqb}
+use Rattle.text.specs.declared.Wrap.{Wrap}
+use Rattle.text.specs.declared.Layout.{Layout}
+use Rattle.text.specs.declared.TextDrawn.{TextDrawn}
+use Rattle.utf8.specs.declared.Step.{Step}
+use Rattle.thalluskin.specs.declared.TextAnswer.{TextAnswer}
+use Rattle.thalluskin.specs.declared.StepAnswer.{StepAnswer}
+
+-- "`wrap_at` is any 64-bit number or none": none is the number with every bit set
+unfoldable pub wrapOf : ℕ → Wrap
+wrapOf wrap = cond (eqb wrap 18446744073709551615) Wrap.Never (Wrap.At wrap)
+
+abbrev pub layout : ℕ → ℕ → ℕ → ℕ → Layout
+layout start wrap stride scale = record { start = start; wrap = wrapOf wrap; stride = stride; scale = scale }
+
+abbrev pub textAnswer : TextDrawn → TextAnswer
+textAnswer (TextDrawn.Done t) = record { refusal = 0; place = 0; rows = t }
+textAnswer (TextDrawn.Refused r) = record { refusal = r .number; place = r .place; rows = record { height = 0; dropped = 0 } }
+
+abbrev pub stepAnswer : Step → StepAnswer
+stepAnswer (Step.Char c next) = record { refusal = 0; place = 0; found = true; code = c; next = next }
+stepAnswer Step.End = record { refusal = 0; place = 0; found = false; code = record { 0 = 0 }; next = 0 }
+stepAnswer (Step.Refused r) =
+    record { refusal = r .number; place = r .place; found = false; code = record { 0 = 0 }; next = 0 }

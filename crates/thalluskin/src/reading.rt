@@ -1,0 +1,188 @@
+// Loading, vetting, and what a font's tables say.
+use crate::FontAnswer;
+use crate::GlyphAnswer;
+use crate::MetricsAnswer;
+use crate::NameAnswer;
+use crate::PropertyAnswer;
+use load::Loaded;
+use load::blank;
+use load::load_pcf;
+use load::no_metrics;
+use lookup::Found;
+use lookup::get_glyph;
+use metrics::Measured;
+use metrics::get_metrics;
+use names::Named;
+use names::Span;
+use names::get_name;
+use props::PropFound;
+use props::PropValue;
+use props::Property;
+use props::prop_at;
+use reads::CharCode;
+use reads::GlyphIndex;
+use tables::Record;
+use vet::Vetted;
+use vet::vet;
+ghost use mathlib.Core.Path.{_≡_};
+ghost use Rattle.load.specs.Load.{loaded};
+ghost use Rattle.lookup.specs.Lookup.{getGlyph};
+ghost use Rattle.metrics.specs.Measure.{getMetrics};
+ghost use Rattle.names.specs.Names.{getName};
+ghost use Rattle.props.specs.Props.{propAt};
+ghost use Rattle.vet.specs.Vet.{vetted};
+ghost use Rattle.thalluskin.specs.Reading.{fontAnswer, vetAnswer, noSpan, propAnswer, propertyAnswer, glyphAnswer, nameAnswer, metricsAnswer};
+
+// The record of a font file, as `load::load_pcf` answers it. Refused with the first of: 1, 2, 3, 4; entry by entry 5, 6
+// and 7, with the entry's number from 0 as the place; 8.
+#[no_mangle]
+pub extern "C" fn thk_load(bytes: &[u8]) -> FontAnswer
+    ensures { λ r. ⌜ r ≡ fontAnswer (loaded (now (bytes .entry))) ⌝ }
+{
+    let answer = load_pcf(bytes);
+    match answer {
+        Loaded::Font(rec) => FontAnswer {
+            refusal: 0,
+            place: 0,
+            rec,
+        },
+        Loaded::Refused(r) => FontAnswer {
+            refusal: r.number as u32,
+            place: r.place,
+            rec: blank(),
+        },
+    }
+}
+
+// The record of a font file that passes vetting, as `vet::vet` answers it. Refused as `thk_load`; then 13; 11 of the
+// bounds; 18 with the property's number as the place; code by code, with the code as the place, 10, 11, 12, 14, 17, 18.
+#[no_mangle]
+pub extern "C" fn thk_vet(bytes: &[u8]) -> FontAnswer
+    ensures { λ r. ⌜ r ≡ vetAnswer (vetted (now (bytes .entry))) ⌝ }
+{
+    let answer = vet(bytes);
+    match answer {
+        Vetted::Passed(rec) => FontAnswer {
+            refusal: 0,
+            place: 0,
+            rec,
+        },
+        Vetted::Refused(r) => FontAnswer {
+            refusal: r.number as u32,
+            place: r.place,
+            rec: blank(),
+        },
+    }
+}
+
+// No part of the bytes.
+fn no_span() -> Span
+    ensures { λ r. ⌜ r ≡ noSpan ⌝ }
+{
+    Span { start: 0, len: 0 }
+}
+
+// A property that was found.
+fn prop_answer(p: Property) -> PropertyAnswer
+    ensures { λ r. ⌜ r ≡ propAnswer p ⌝ }
+{
+    let name = p.name;
+    let value = p.value;
+    match value {
+        PropValue::Number(number) => PropertyAnswer {
+            refusal: 0,
+            place: 0,
+            name,
+            is_string: false,
+            number,
+            string: no_span(),
+        },
+        PropValue::String(string) => PropertyAnswer {
+            refusal: 0,
+            place: 0,
+            name,
+            is_string: true,
+            number: 0,
+            string,
+        },
+    }
+}
+
+// A property by its number from 0, as `props::prop_at` answers it. Refused, with place 0: 6, 17, 18.
+#[no_mangle]
+pub extern "C" fn thk_property(bytes: &[u8], rec: Record, number: u32) -> PropertyAnswer
+    ensures { λ r. ⌜ r ≡ propertyAnswer (propAt (now (bytes .entry)) rec number) ⌝ }
+{
+    let answer = prop_at(bytes, rec, number);
+    match answer {
+        PropFound::Property(p) => prop_answer(p),
+        PropFound::Refused(r) => PropertyAnswer {
+            refusal: r.number as u32,
+            place: r.place,
+            name: no_span(),
+            is_string: false,
+            number: 0,
+            string: no_span(),
+        },
+    }
+}
+
+// The glyph of a code, as `lookup::get_glyph` answers it. Refused, with place 0: 6, 9.
+#[no_mangle]
+pub extern "C" fn thk_glyph(bytes: &[u8], rec: Record, code: CharCode) -> GlyphAnswer
+    ensures { λ r. ⌜ r ≡ glyphAnswer (getGlyph (now (bytes .entry)) rec (code .0)) ⌝ }
+{
+    let answer = get_glyph(bytes, rec, code);
+    match answer {
+        Found::Glyph(glyph) => GlyphAnswer {
+            refusal: 0,
+            place: 0,
+            glyph,
+        },
+        Found::Refused(r) => GlyphAnswer {
+            refusal: r.number as u32,
+            place: r.place,
+            glyph: GlyphIndex(0),
+        },
+    }
+}
+
+// Where a glyph's name stands in the bytes, as `names::get_name` answers it. Refused, with place 0: 6, 17, 18.
+#[no_mangle]
+pub extern "C" fn thk_name(bytes: &[u8], rec: Record, glyph: GlyphIndex) -> NameAnswer
+    ensures { λ r. ⌜ r ≡ nameAnswer (getName (now (bytes .entry)) rec (glyph .0)) ⌝ }
+{
+    let answer = get_name(bytes, rec, glyph);
+    match answer {
+        Named::Name(name) => NameAnswer {
+            refusal: 0,
+            place: 0,
+            name,
+        },
+        Named::Refused(r) => NameAnswer {
+            refusal: r.number as u32,
+            place: r.place,
+            name: no_span(),
+        },
+    }
+}
+
+// A glyph's metrics, as `metrics::get_metrics` answers them. Refused, with place 0: 6, 10.
+#[no_mangle]
+pub extern "C" fn thk_metrics(bytes: &[u8], rec: Record, glyph: GlyphIndex) -> MetricsAnswer
+    ensures { λ r. ⌜ r ≡ metricsAnswer (getMetrics (now (bytes .entry)) rec (glyph .0)) ⌝ }
+{
+    let answer = get_metrics(bytes, rec, glyph);
+    match answer {
+        Measured::Metrics(metrics) => MetricsAnswer {
+            refusal: 0,
+            place: 0,
+            metrics,
+        },
+        Measured::Refused(r) => MetricsAnswer {
+            refusal: r.number as u32,
+            place: r.place,
+            metrics: no_metrics(),
+        },
+    }
+}
