@@ -1,8 +1,9 @@
 #!/usr/bin/env python3
 """Every public function of the libraries has a contract on its answer and asks nothing of its caller,
-and crates/promises/proofs/Unique.antt says of each that its contract determines the answer. That the
+and the files crates/promises/proofs/Unique*.antt say of each that its contract determines the answer. That the
 contracts and the theorems hold is for the prover; this sees that none is missing. A function that
 answers nothing, and is lent nothing that it could change, has nothing to determine."""
+import glob
 import os
 import re
 import sys
@@ -25,10 +26,14 @@ def public_functions():
 
 
 def fixed():
-    """(crate, name), and whether the buffer is in it, of each theorem of Unique.antt: one about that
+    """(crate, name), and whether the buffer is in it, of each theorem of those files: one about that
     function's own contract, and no other"""
-    with open(os.path.join(ROOT, "crates", "promises", "proofs", "Unique.antt"), encoding="utf-8") as f:
-        text = f.read()
+    for path in sorted(glob.glob(os.path.join(ROOT, "crates", "promises", "proofs", "Unique*.antt"))):
+        with open(path, encoding="utf-8") as f:
+            yield from fixed_by(f.read())
+
+
+def fixed_by(text):
     for crate, name, short in re.findall(r"^use Rattle·(\w+)\.proofs\.(\w+)\.Reads as (\S+)-reads$", text, re.M):
         kinds = f"use Rattle.{crate}.proofs.{name}.Kinds as {short}-kinds"
         s = re.escape(short)

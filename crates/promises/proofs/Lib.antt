@@ -1,6 +1,7 @@
 mod ProvedCases
 mod DumpF
 mod Unique
+mod UniqueExports
 mod RecordTest
 mod Vetting
 mod VettingRefuses

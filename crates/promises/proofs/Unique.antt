@@ -54,6 +54,10 @@ use Rattle.tables.proofs.record_fits.Kinds as record-fits-kinds
 use Rattle.tables.proofs.record_fits.Reads as record-fits-reads
 use Rattle.load.proofs.load_pcf.Kinds as load-pcf-kinds
 use Rattle.load.proofs.load_pcf.Reads as load-pcf-reads
+use Rattle.load.proofs.blank.Kinds as blank-kinds
+use Rattle.load.proofs.blank.Reads as blank-reads
+use Rattle.load.proofs.no_metrics.Kinds as no-metrics-kinds
+use Rattle.load.proofs.no_metrics.Reads as no-metrics-reads
 use Rattle.lookup.proofs.glyph_of.Kinds as glyph-of-kinds
 use Rattle.lookup.proofs.glyph_of.Reads as glyph-of-reads
 use Rattle.lookup.proofs.get_glyph.Kinds as get-glyph-kinds
@@ -216,6 +220,12 @@ record-fits-unique κs a r₁ r₂ x₁ x₂ p q = p ∙ sym q
 
 pub load-pcf-unique : Fixes 1 load-pcf-kinds.ps load-pcf-kinds.r load-pcf-reads.Post
 load-pcf-unique κs a r₁ r₂ x₁ x₂ p q = p ∙ sym q
+
+pub blank-unique : Fixes 0 blank-kinds.ps blank-kinds.r blank-reads.Post
+blank-unique κs a r₁ r₂ x₁ x₂ p q = p ∙ sym q
+
+pub no-metrics-unique : Fixes 0 no-metrics-kinds.ps no-metrics-kinds.r no-metrics-reads.Post
+no-metrics-unique κs a r₁ r₂ x₁ x₂ p q = p ∙ sym q
 
 pub glyph-of-unique : Fixes 1 glyph-of-kinds.ps glyph-of-kinds.r glyph-of-reads.Post
 glyph-of-unique κs a r₁ r₂ x₁ x₂ p q = p ∙ sym q

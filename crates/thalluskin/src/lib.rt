@@ -10,14 +10,29 @@ mod reading;
 mod texts;
 
 use bitmaps::Rows;
+pub use drawing::thk_draw_bitmap;
+pub use drawing::thk_draw_char;
+pub use drawing::thk_draw_glyph;
+pub use drawing::thk_unpack_glyph;
 use names::Span;
 use place::Extent;
 use place::GlyphInfo;
+pub use placing::thk_dimensions;
+pub use placing::thk_prep_char;
+pub use reading::thk_glyph;
+pub use reading::thk_load;
+pub use reading::thk_metrics;
+pub use reading::thk_name;
+pub use reading::thk_property;
+pub use reading::thk_vet;
 use reads::CharCode;
 use reads::GlyphIndex;
 use tables::MetricsUnpacked;
 use tables::Record;
 use text::TextRows;
+pub use texts::thk_draw_string;
+pub use texts::thk_text_check;
+pub use texts::thk_utf8_step;
 
 // The font's record, to be used with the same bytes.
 #[repr(C)]
