@@ -3,6 +3,9 @@ mod DumpF
 mod Unique
 mod UniqueExports
 mod RecordTest
+mod Numbered
+mod NumberedDrawing
+mod Exported
 mod Vetting
 mod VettingRefuses
 mod Coloured

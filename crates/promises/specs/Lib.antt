@@ -4,6 +4,8 @@ pub mod Seen
 pub mod Cases
 pub mod Unique
 pub mod SixExactly
+pub mod Numbered
+pub mod Exported
 pub mod Passing
 pub mod Refusing
 pub mod Drawing

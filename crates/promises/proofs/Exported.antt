@@ -1,0 +1,163 @@
+-- What a caller in C reads off an exported function's answer is what document 01 says of the library's: number and place on a refusal, and
+-- the values where `refusal` is 0.
+use mathlib.Core.Path.{_≡_, refl}
+use mathlib.Core.List.{List}
+use Prim.Native.Nat.{ℕ, zero, suc}
+use lib.IntN.{ℤ}
+use Rattle.reads.specs.Said.{refusal, refuses}
+use Rattle.tables.specs.declared.Record.{Record}
+use Rattle.load.specs.Load.{loaded, saidLoaded}
+use Rattle.load.specs.declared.Loaded.{Loaded}
+use Rattle.vet.specs.Vet.{vetted, saidVetted}
+use Rattle.vet.specs.declared.Vetted.{Vetted}
+use Rattle.lookup.specs.Lookup.{getGlyph, saidFound}
+use Rattle.lookup.specs.declared.Found.{Found}
+use Rattle.names.specs.Names.{getName, saidNamed}
+use Rattle.names.specs.declared.Named.{Named}
+use Rattle.names.specs.declared.Span.{Span}
+use Rattle.props.specs.Props.{propAt, saidProp}
+use Rattle.props.specs.declared.PropValue.{PropValue}
+use Rattle.props.specs.declared.PropFound.{PropFound}
+use Rattle.metrics.specs.Measure.{getMetrics, saidMeasured}
+use Rattle.metrics.specs.declared.Measured.{Measured}
+use Rattle.bitmaps.specs.Draw.{drawBitmap, saidDrawn}
+use Rattle.bitmaps.specs.Unpack.{saidUnpacked}
+use Rattle.bitmaps.specs.declared.Drawn.{Drawn}
+use Rattle.bitmaps.specs.declared.Unpacked.{Unpacked}
+use Rattle.place.specs.Bounds.{dimensions, saidSized}
+use Rattle.place.specs.Info.{prepChar, saidPrepared}
+use Rattle.place.specs.declared.Sized.{Sized}
+use Rattle.place.specs.declared.GlyphInfo.{GlyphInfo}
+use Rattle.place.specs.declared.Prepared.{Prepared}
+use Rattle.glyphs.specs.Glyph.{drawGlyph}
+use Rattle.glyphs.specs.Char.{drawChar, saidChar}
+use Rattle.glyphs.specs.Unpack.{unpackGlyph}
+use Rattle.glyphs.specs.declared.CharDrawn.{CharDrawn}
+use Rattle.utf8.specs.Step.{stepAt, saidStep}
+use Rattle.utf8.specs.declared.Step.{Step}
+use Rattle.text.specs.Text.{drawString, saidText}
+use Rattle.text.specs.declared.TextDrawn.{TextDrawn}
+use Rattle.thalluskin.specs.Reading.{fontAnswer, vetAnswer, propAnswer, propertyAnswer, glyphAnswer, nameAnswer, metricsAnswer}
+use Rattle.thalluskin.specs.Placing.{extentAnswer, infoAnswer}
+use Rattle.thalluskin.specs.Drawing.{rowsAnswer, charAnswer, unpackAnswer}
+use Rattle.thalluskin.specs.Texts.{layout, textAnswer, stepAnswer}
+use Rattle.promises.specs.Numbered.{Numbered}
+use Rattle.promises.specs.Exported.{readOff, saysFont, saysProperty, saysGlyph, saysName, saysMetrics, saysExtent, saysInfo, saysRows, saysChar, saysUnpack, saysText, saysStep}
+use Rattle.promises.proofs.Numbered.{load-numbered, vet-numbered, prop-numbered, glyph-numbered, name-numbered, metrics-numbered, dimensions-numbered, prep-char-numbered}
+use Rattle.promises.proofs.NumberedDrawing.{bitmap-numbered, draw-glyph-numbered, draw-char-numbered, unpack-glyph-numbered, string-numbered, step-numbered}
+
+-- beside a refusal's number no value is read
+a-refusal : (n place : ℕ) (values : List ℤ) → Numbered (refuses (refusal n place)) → readOff n place values ≡ refuses (refusal n place)
+a-refusal zero place values h = absurd (h .answers refl refl)
+a-refusal (suc n) place values h = refl
+
+font-read : (x : Loaded) → Numbered (saidLoaded x) → saysFont (fontAnswer x) ≡ saidLoaded x
+font-read (Loaded.Font rec) h = refl
+font-read (Loaded.Refused r) h = a-refusal (r .number) (r .place) _ h
+
+vet-read : (x : Vetted) → Numbered (saidVetted x) → saysFont (vetAnswer x) ≡ saidVetted x
+vet-read (Vetted.Passed rec) h = refl
+vet-read (Vetted.Refused r) h = a-refusal (r .number) (r .place) _ h
+
+glyph-read : (x : Found) → Numbered (saidFound x) → saysGlyph (glyphAnswer x) ≡ saidFound x
+glyph-read (Found.Glyph g) h = refl
+glyph-read (Found.Refused r) h = a-refusal (r .number) (r .place) _ h
+
+name-read : (x : Named) → Numbered (saidNamed x) → saysName (nameAnswer x) ≡ saidNamed x
+name-read (Named.Name p) h = refl
+name-read (Named.Refused r) h = a-refusal (r .number) (r .place) _ h
+
+metrics-read : (x : Measured) → Numbered (saidMeasured x) → saysMetrics (metricsAnswer x) ≡ saidMeasured x
+metrics-read (Measured.Metrics m) h = refl
+metrics-read (Measured.Refused r) h = a-refusal (r .number) (r .place) _ h
+
+extent-read : (x : Sized) → Numbered (saidSized x) → saysExtent (extentAnswer x) ≡ saidSized x
+extent-read (Sized.Dimensions d) h = refl
+extent-read (Sized.Refused r) h = a-refusal (r .number) (r .place) _ h
+
+info-read : (x : Prepared) → Numbered (saidPrepared x) → saysInfo (infoAnswer x) ≡ saidPrepared x
+info-read (Prepared.Info i) h = refl
+info-read (Prepared.Refused r) h = a-refusal (r .number) (r .place) _ h
+
+rows-read : (x : Drawn) → Numbered (saidDrawn x) → saysRows (rowsAnswer x) ≡ saidDrawn x
+rows-read (Drawn.Rows n) h = refl
+rows-read (Drawn.Refused r) h = a-refusal (r .number) (r .place) _ h
+
+char-read : (x : CharDrawn) → Numbered (saidChar x) → saysChar (charAnswer x) ≡ saidChar x
+char-read (CharDrawn.Glyph i n) h = refl
+char-read (CharDrawn.Refused r) h = a-refusal (r .number) (r .place) _ h
+
+unpack-read : (x : Unpacked) → Numbered (saidUnpacked x) → saysUnpack (unpackAnswer x) ≡ saidUnpacked x
+unpack-read (Unpacked.Rows n) h = refl
+unpack-read (Unpacked.Refused r) h = a-refusal (r .number) (r .place) _ h
+
+text-read : (x : TextDrawn) → Numbered (saidText x) → saysText (textAnswer x) ≡ saidText x
+text-read (TextDrawn.Done t) h = refl
+text-read (TextDrawn.Refused r) h = a-refusal (r .number) (r .place) _ h
+
+step-read : (x : Step) → Numbered (saidStep x) → saysStep (stepAnswer x) ≡ saidStep x
+step-read (Step.Char c next) h = refl
+step-read Step.End h = refl
+step-read (Step.Refused r) h = a-refusal (r .number) (r .place) _ h
+
+value-read : (name : Span) (v : PropValue) → saysProperty (propAnswer (record { name = name; value = v })) ≡ saidProp (PropFound.Property (record { name = name; value = v }))
+value-read name (PropValue.Number n) = refl
+value-read name (PropValue.String p) = refl
+
+property-read : (x : PropFound) → Numbered (saidProp x) → saysProperty (propertyAnswer x) ≡ saidProp x
+property-read (PropFound.Property p) h = value-read (p .name) (p .value)
+property-read (PropFound.Refused r) h = a-refusal (r .number) (r .place) _ h
+
+pub load-says : (s : List ℕ) → saysFont (fontAnswer (loaded s)) ≡ saidLoaded (loaded s)
+load-says s = font-read (loaded s) (load-numbered s)
+
+pub vet-says : (s : List ℕ) → saysFont (vetAnswer (vetted s)) ≡ saidVetted (vetted s)
+vet-says s = vet-read (vetted s) (vet-numbered s)
+
+pub property-says : (s : List ℕ) (rec : Record) (number : ℕ) → saysProperty (propertyAnswer (propAt s rec number)) ≡ saidProp (propAt s rec number)
+property-says s rec number = property-read (propAt s rec number) (prop-numbered s rec number)
+
+pub glyph-says : (s : List ℕ) (rec : Record) (code : ℕ) → saysGlyph (glyphAnswer (getGlyph s rec code)) ≡ saidFound (getGlyph s rec code)
+glyph-says s rec code = glyph-read (getGlyph s rec code) (glyph-numbered s rec code)
+
+pub name-says : (s : List ℕ) (rec : Record) (glyph : ℕ) → saysName (nameAnswer (getName s rec glyph)) ≡ saidNamed (getName s rec glyph)
+name-says s rec glyph = name-read (getName s rec glyph) (name-numbered s rec glyph)
+
+pub metrics-says : (s : List ℕ) (rec : Record) (glyph : ℕ) → saysMetrics (metricsAnswer (getMetrics s rec glyph)) ≡ saidMeasured (getMetrics s rec glyph)
+metrics-says s rec glyph = metrics-read (getMetrics s rec glyph) (metrics-numbered s rec glyph)
+
+pub dimensions-says : (s : List ℕ) (rec : Record) → saysExtent (extentAnswer (dimensions s rec)) ≡ saidSized (dimensions s rec)
+dimensions-says s rec = extent-read (dimensions s rec) (dimensions-numbered s rec)
+
+pub prep-char-says : (s : List ℕ) (rec : Record) (code : ℕ) → saysInfo (infoAnswer (prepChar s rec code)) ≡ saidPrepared (prepChar s rec code)
+prep-char-says s rec code = info-read (prepChar s rec code) (prep-char-numbered s rec code)
+
+pub draw-bitmap-says : (s : List ℕ) (rec : Record) (glyph width height len start stride scale : ℕ)
+    → let d = drawBitmap s rec glyph width height len start stride scale in saysRows (rowsAnswer d) ≡ saidDrawn d
+draw-bitmap-says s rec glyph width height len start stride scale =
+    rows-read (drawBitmap s rec glyph width height len start stride scale) (bitmap-numbered s rec glyph width height len start stride scale)
+
+pub draw-glyph-says : (s : List ℕ) (rec : Record) (info : GlyphInfo) (len start stride scale : ℕ)
+    → let d = drawGlyph s rec info len start stride scale in saysRows (rowsAnswer d) ≡ saidDrawn d
+draw-glyph-says s rec info len start stride scale =
+    rows-read (drawGlyph s rec info len start stride scale) (draw-glyph-numbered s rec info len start stride scale)
+
+pub draw-char-says : (s : List ℕ) (rec : Record) (code len start stride scale : ℕ)
+    → let d = drawChar s rec code len start stride scale in saysChar (charAnswer d) ≡ saidChar d
+draw-char-says s rec code len start stride scale =
+    char-read (drawChar s rec code len start stride scale) (draw-char-numbered s rec code len start stride scale)
+
+pub unpack-glyph-says : (s : List ℕ) (rec : Record) (info : GlyphInfo) (len start stride : ℕ)
+    → let u = unpackGlyph s rec info len start stride in saysUnpack (unpackAnswer u) ≡ saidUnpacked u
+unpack-glyph-says s rec info len start stride =
+    unpack-read (unpackGlyph s rec info len start stride) (unpack-glyph-numbered s rec info len start stride)
+
+-- of the drawing and of its dry run, which answer the same
+pub draw-string-says : (s : List ℕ) (rec : Record) (text : List ℕ) (len start wrap stride scale : ℕ)
+    → let d = drawString s rec text len (layout start wrap stride scale) in saysText (textAnswer d) ≡ saidText d
+draw-string-says s rec text len start wrap stride scale =
+    let lay = layout start wrap stride scale in
+    text-read (drawString s rec text len lay) (string-numbered s rec text len lay)
+
+pub utf8-step-says : (text : List ℕ) (i : ℕ) → saysStep (stepAnswer (stepAt text i)) ≡ saidStep (stepAt text i)
+utf8-step-says text i = step-read (stepAt text i) (step-numbered text i)
