@@ -1,0 +1,382 @@
+use crate::calls;
+use crate::structs::*;
+use crate::Refusal;
+
+/// A font: the bytes of its file, and the record that loading gave for them.
+///
+/// Every call answers for any bytes and any record. Where it refuses, buffers are as they were.
+///
+/// A buffer of pixels holds lines of `stride` pixels, and `start` is the pixel at the top left of what is drawn. Each
+/// set bit colours a square of `scale` by `scale` pixels. Nothing stops a glyph at its line's right end. From the top
+/// of its bitmap on the buffer holds some number of whole lines: rounded down to a multiple of `scale`, that many of
+/// its rows are drawn, or all if it has no more; the others are dropped. A pixel to colour can still lie beyond the
+/// buffer, at a scale above 1 or past the right end of the last line; then the call is refused (16).
+///
+/// `stride` is 1 to 65,535, `scale` 1 to 64, `start` at most 2,147,483,647, and a given width, height or pad at most
+/// 32,767; 15 refuses all else.
+#[derive(Clone, Copy, Debug)]
+pub struct Font<'a> {
+    bytes: &'a [u8],
+    record: Record,
+}
+
+/// A property of a font: its name and its value, parts of the font's own bytes.
+#[derive(Clone, Copy, Debug, PartialEq, Eq)]
+pub struct Property<'a> {
+    /// The name, which need not be UTF-8.
+    pub name: &'a [u8],
+    /// The value.
+    pub value: Value<'a>,
+}
+
+/// The value of a property.
+#[derive(Clone, Copy, Debug, PartialEq, Eq)]
+pub enum Value<'a> {
+    /// A number.
+    Number(u32),
+    /// A string, which need not be UTF-8.
+    String(&'a [u8]),
+}
+
+// The value, unless the call was refused.
+fn answer<T>(refusal: u32, place: usize, value: T) -> Result<T, Refusal> {
+    if refusal == 0 {
+        Ok(value)
+    } else {
+        Err(Refusal { number: refusal, place })
+    }
+}
+
+// The place where lines end, as the library has it. No line reaches the greatest number.
+fn wrap_number(wrap: Option<u64>) -> u64 {
+    wrap.unwrap_or(u64::MAX)
+}
+
+impl<'a> Font<'a> {
+    /// A font file, loaded. Refused 1, 2, 3, 4; entry by entry 5, 6, 7; 8.
+    ///
+    /// ```
+    /// # let file = include_bytes!("../../../crates/inspect/data/f.pcf");
+    /// let font = thalluskin::Font::load(file)?;
+    /// assert_eq!(font.record().codes.low2, 0x30);
+    /// # Ok::<(), thalluskin::Refusal>(())
+    /// ```
+    pub fn load(bytes: &'a [u8]) -> Result<Font<'a>, Refusal> {
+        let a = calls::load(bytes);
+        answer(a.refusal, a.place, Font { bytes, record: a.rec })
+    }
+
+    /// The same, of a font of which no code's glyph is ever refused for the font's sake: in such a font a text is
+    /// refused only for itself (19), for another argument (15), or because a pixel to colour lies beyond the buffer
+    /// (16).
+    /// Refused as `load`; 13; 11 of the bounds; 18 of a property; code by code 10, 11, 12, 14, 17, 18.
+    ///
+    /// ```
+    /// # let file = include_bytes!("../../../crates/inspect/data/f.pcf");
+    /// assert!(thalluskin::Font::vet(file).is_ok());
+    /// let cut = thalluskin::Font::vet(&file[..file.len() - 1]).unwrap_err();
+    /// assert_eq!((cut.number, cut.place), (6, 5));
+    /// ```
+    pub fn vet(bytes: &'a [u8]) -> Result<Font<'a>, Refusal> {
+        let a = calls::vet(bytes);
+        answer(a.refusal, a.place, Font { bytes, record: a.rec })
+    }
+
+    /// Bytes with a record that was kept. Nothing is tested here: each call tests the record, and refuses 6 where it
+    /// does not fit the bytes.
+    ///
+    /// ```
+    /// # use thalluskin::{CharCode, Font};
+    /// # let file = include_bytes!("../../../crates/inspect/data/f.pcf");
+    /// let kept = *Font::vet(file)?.record();
+    /// assert!(Font::with_record(file, kept).glyph(CharCode(0x30)).is_ok());
+    /// assert_eq!(Font::with_record(b"", kept).glyph(CharCode(0x30)).unwrap_err().number, 6);
+    /// # Ok::<(), thalluskin::Refusal>(())
+    /// ```
+    pub fn with_record(bytes: &'a [u8], record: Record) -> Font<'a> {
+        Font { bytes, record }
+    }
+
+    /// The bytes of the font's file.
+    ///
+    /// ```
+    /// # let file = include_bytes!("../../../crates/inspect/data/f.pcf");
+    /// assert_eq!(thalluskin::Font::load(file)?.bytes(), file);
+    /// # Ok::<(), thalluskin::Refusal>(())
+    /// ```
+    pub fn bytes(&self) -> &'a [u8] {
+        self.bytes
+    }
+
+    /// What loading kept of the font's tables.
+    ///
+    /// ```
+    /// # let file = include_bytes!("../../../crates/inspect/data/f.pcf");
+    /// let font = thalluskin::Font::load(file)?;
+    /// assert_eq!((font.record().props.count, font.record().metrics.count), (0, 2));
+    /// # Ok::<(), thalluskin::Refusal>(())
+    /// ```
+    pub fn record(&self) -> &Record {
+        &self.record
+    }
+
+    // A part of the font's bytes.
+    fn part(&self, span: Span) -> Result<&'a [u8], Refusal> {
+        let outside = Refusal { number: 0, place: span.start };
+        let end = span.start.checked_add(span.len).ok_or(outside)?;
+        self.bytes.get(span.start..end).ok_or(outside)
+    }
+
+    /// The property with this number, from 0. Refused 6, 17, 18.
+    ///
+    /// ```
+    /// # use thalluskin::{Font, Value};
+    /// # let file = include_bytes!("../../../crates/inspect/data/big_two_byte.pcf");
+    /// let font = Font::load(file)?;
+    /// let family = font.property(0)?;
+    /// assert_eq!((family.name, family.value), (&b"FAMILY"[..], Value::String(b"Meter")));
+    /// assert_eq!(font.property(1)?.value, Value::Number(305419896));
+    /// assert_eq!(font.property(3).unwrap_err().number, 17);
+    /// # Ok::<(), thalluskin::Refusal>(())
+    /// ```
+    pub fn property(&self, number: u32) -> Result<Property<'a>, Refusal> {
+        let a = calls::property(self.bytes, self.record, number);
+        answer(a.refusal, a.place, ())?;
+        let value = if a.is_string { Value::String(self.part(a.string)?) } else { Value::Number(a.number) };
+        Ok(Property { name: self.part(a.name)?, value })
+    }
+
+    /// The glyph of a code. Refused 6, 9.
+    ///
+    /// ```
+    /// # use thalluskin::{CharCode, Font, GlyphIndex};
+    /// # let file = include_bytes!("../../../crates/inspect/data/f.pcf");
+    /// let font = Font::load(file)?;
+    /// assert_eq!(font.glyph('1'.into())?, GlyphIndex(1));
+    /// assert_eq!(font.glyph(CharCode(0x32)).unwrap_err().number, 9);
+    /// # Ok::<(), thalluskin::Refusal>(())
+    /// ```
+    pub fn glyph(&self, code: CharCode) -> Result<GlyphIndex, Refusal> {
+        let a = calls::glyph(self.bytes, self.record, code);
+        answer(a.refusal, a.place, a.glyph)
+    }
+
+    /// A glyph's name, a part of the font's own bytes. Refused 6, 17, 18.
+    ///
+    /// ```
+    /// # use thalluskin::{Font, GlyphIndex};
+    /// # let file = include_bytes!("../../../crates/inspect/data/f.pcf");
+    /// let font = Font::load(file)?;
+    /// assert_eq!(font.name(GlyphIndex(0))?, b"nil");
+    /// assert_eq!(font.name(GlyphIndex(2)).unwrap_err().number, 17);
+    /// # Ok::<(), thalluskin::Refusal>(())
+    /// ```
+    pub fn name(&self, glyph: GlyphIndex) -> Result<&'a [u8], Refusal> {
+        let a = calls::name(self.bytes, self.record, glyph);
+        self.part(answer(a.refusal, a.place, a.name)?)
+    }
+
+    /// A glyph's metrics. Refused 6, 10.
+    ///
+    /// ```
+    /// # use thalluskin::{Font, GlyphIndex};
+    /// # let file = include_bytes!("../../../crates/inspect/data/f.pcf");
+    /// let font = Font::load(file)?;
+    /// let one = font.metrics(GlyphIndex(1))?;
+    /// assert_eq!((one.width, one.ascent, one.descent), (3, 3, 0));
+    /// # Ok::<(), thalluskin::Refusal>(())
+    /// ```
+    pub fn metrics(&self, glyph: GlyphIndex) -> Result<Metrics, Refusal> {
+        let a = calls::metrics(self.bytes, self.record, glyph);
+        answer(a.refusal, a.place, a.metrics)
+    }
+
+    /// The height and width of the bounds. Refused 6, 11.
+    ///
+    /// ```
+    /// # use thalluskin::{Extent, Font};
+    /// # let file = include_bytes!("../../../crates/inspect/data/f.pcf");
+    /// assert_eq!(Font::load(file)?.dimensions()?, Extent { height: 3, width: 3 });
+    /// # Ok::<(), thalluskin::Refusal>(())
+    /// ```
+    pub fn dimensions(&self) -> Result<Extent, Refusal> {
+        let a = calls::dimensions(self.bytes, self.record);
+        answer(a.refusal, a.place, a.extent)
+    }
+
+    /// A character's glyph, placed. Refused 6, 9, 10, 11.
+    ///
+    /// ```
+    /// # use thalluskin::{Font, GlyphIndex, GlyphInfo};
+    /// # let file = include_bytes!("../../../crates/inspect/data/f.pcf");
+    /// let placed = GlyphInfo { glyph: GlyphIndex(1), width: 3, height: 3, pad_top: 0, pad_left: 0 };
+    /// assert_eq!(Font::load(file)?.prep_char('1'.into())?, placed);
+    /// # Ok::<(), thalluskin::Refusal>(())
+    /// ```
+    pub fn prep_char(&self, code: CharCode) -> Result<GlyphInfo, Refusal> {
+        let a = calls::prep_char(self.bytes, self.record, code);
+        answer(a.refusal, a.place, a.info)
+    }
+
+    /// Draws a glyph's bitmap at `start`. Refused 6, 15, 12, 13, 14, 16.
+    ///
+    /// ```
+    /// # use thalluskin::{Font, GlyphIndex, Rows};
+    /// # let file = include_bytes!("../../../crates/inspect/data/f.pcf");
+    /// let mut page = [0; 9];
+    /// let rows = Font::load(file)?.draw_bitmap(GlyphIndex(0), 3, 3, &mut page, 0, 3, 1, 7)?;
+    /// assert_eq!(rows, Rows { drawn: 3, dropped: 0 });
+    /// assert_eq!(page, [7, 7, 7, 7, 0, 7, 7, 7, 7]);
+    /// # Ok::<(), thalluskin::Refusal>(())
+    /// ```
+    #[allow(clippy::too_many_arguments)]
+    pub fn draw_bitmap(
+        &self,
+        glyph: GlyphIndex,
+        width: usize,
+        height: usize,
+        buf: &mut [u32],
+        start: usize,
+        stride: usize,
+        scale: usize,
+        colour: u32,
+    ) -> Result<Rows, Refusal> {
+        let a = calls::draw_bitmap(self.bytes, self.record, glyph, width, height, buf, start, stride, scale, colour);
+        answer(a.refusal, a.place, a.rows)
+    }
+
+    /// Draws a placed glyph; one without a bitmap is nothing drawn and nothing dropped. Refused 6, 15, 13, 14, 16.
+    ///
+    /// ```
+    /// # use thalluskin::{Font, Rows};
+    /// # let file = include_bytes!("../../../crates/inspect/data/f.pcf");
+    /// let font = Font::load(file)?;
+    /// let mut page = [0; 8];
+    /// let rows = font.draw_glyph(font.prep_char('0'.into())?, &mut page, 0, 3, 1, 7)?;
+    /// assert_eq!(rows, Rows { drawn: 2, dropped: 1 });
+    /// assert_eq!(page, [7, 7, 7, 7, 0, 7, 0, 0]);
+    /// # Ok::<(), thalluskin::Refusal>(())
+    /// ```
+    pub fn draw_glyph(
+        &self,
+        info: GlyphInfo,
+        buf: &mut [u32],
+        start: usize,
+        stride: usize,
+        scale: usize,
+        colour: u32,
+    ) -> Result<Rows, Refusal> {
+        let a = calls::draw_glyph(self.bytes, self.record, info, buf, start, stride, scale, colour);
+        answer(a.refusal, a.place, a.rows)
+    }
+
+    /// Draws a character, and answers its placed glyph too. Refused 6, 15, 9, 10, 11, 13, 14, 16.
+    ///
+    /// ```
+    /// # use thalluskin::Font;
+    /// # let file = include_bytes!("../../../crates/inspect/data/f.pcf");
+    /// let mut page = [0; 24];
+    /// let drawn = Font::load(file)?.draw_char('0'.into(), &mut page, 0, 6, 2, 7);
+    /// assert_eq!(drawn.unwrap_err().number, 16);
+    /// assert_eq!(page, [0; 24]);
+    /// # Ok::<(), thalluskin::Refusal>(())
+    /// ```
+    pub fn draw_char(
+        &self,
+        code: CharCode,
+        buf: &mut [u32],
+        start: usize,
+        stride: usize,
+        scale: usize,
+        colour: u32,
+    ) -> Result<(GlyphInfo, Rows), Refusal> {
+        let a = calls::draw_char(self.bytes, self.record, code, buf, start, stride, scale, colour);
+        answer(a.refusal, a.place, (a.info, a.rows))
+    }
+
+    /// Stores 1 for each set bit of every whole row byte of a placed glyph, columns past its width included, and
+    /// answers how many rows that were. No row is dropped. Refused 6, 15, 13, 14, 16.
+    ///
+    /// ```
+    /// # use thalluskin::Font;
+    /// # let file = include_bytes!("../../../crates/inspect/data/f.pcf");
+    /// let font = Font::load(file)?;
+    /// let mut bits = [9; 9];
+    /// assert_eq!(font.unpack_glyph(font.prep_char('1'.into())?, &mut bits, 0, 3)?, 3);
+    /// assert_eq!(bits, [9, 1, 9, 9, 1, 9, 9, 1, 9]);
+    /// # Ok::<(), thalluskin::Refusal>(())
+    /// ```
+    pub fn unpack_glyph(&self, info: GlyphInfo, buf: &mut [u8], start: usize, stride: usize) -> Result<u16, Refusal> {
+        let a = calls::unpack_glyph(self.bytes, self.record, info, buf, start, stride);
+        answer(a.refusal, a.place, a.rows)
+    }
+
+    /// Draws a text, UTF-8 of at most 65,535 bytes. A newline, and a glyph that would reach `wrap` pixels from the
+    /// line's start, begin a new line; a carriage return and a code without a glyph are skipped. No line reaches
+    /// `u64::MAX` pixels.
+    /// Refused 6, 15, 19, 11 of the bounds; then the first character with a refusal decides: 10, 11, 13, 14, 16.
+    ///
+    /// ```
+    /// # use thalluskin::{Font, TextRows};
+    /// # let file = include_bytes!("../../../crates/inspect/data/f.pcf");
+    /// let font = Font::vet(file)?;
+    /// let mut page = [0; 18];
+    /// let rows = font.draw_string("01".as_bytes(), &mut page, 0, None, 6, 1, 7)?;
+    /// assert_eq!(rows, TextRows { height: 3, dropped: 1 });
+    /// assert_eq!(page, [7, 7, 7, 0, 7, 0, 7, 0, 7, 0, 7, 0, 7, 7, 7, 0, 0, 0]);
+    /// # Ok::<(), thalluskin::Refusal>(())
+    /// ```
+    #[allow(clippy::too_many_arguments)]
+    pub fn draw_string(
+        &self,
+        text: &[u8],
+        buf: &mut [u32],
+        start: usize,
+        wrap: Option<u64>,
+        stride: usize,
+        scale: usize,
+        colour: u32,
+    ) -> Result<TextRows, Refusal> {
+        let a = calls::draw_string(self.bytes, self.record, text, buf, start, wrap_number(wrap), stride, scale, colour);
+        answer(a.refusal, a.place, a.rows)
+    }
+
+    /// What `draw_string` answers with a buffer of `len` pixels: a dry run.
+    ///
+    /// ```
+    /// # use thalluskin::{Font, TextRows};
+    /// # let file = include_bytes!("../../../crates/inspect/data/f.pcf");
+    /// let font = Font::vet(file)?;
+    /// assert_eq!(font.text_check(b"01", 36, 0, Some(6), 6, 1)?, TextRows { height: 6, dropped: 0 });
+    /// assert_eq!(font.text_check(b"0\xff", 36, 0, Some(6), 6, 1).unwrap_err().place, 1);
+    /// # Ok::<(), thalluskin::Refusal>(())
+    /// ```
+    pub fn text_check(
+        &self,
+        text: &[u8],
+        len: usize,
+        start: usize,
+        wrap: Option<u64>,
+        stride: usize,
+        scale: usize,
+    ) -> Result<TextRows, Refusal> {
+        let a = calls::text_check(self.bytes, self.record, text, len, start, wrap_number(wrap), stride, scale);
+        answer(a.refusal, a.place, a.rows)
+    }
+}
+
+/// The character at byte `i` of a text and where the next one starts, or `None` at the end. Refused 19, with `i` as
+/// the place.
+///
+/// ```
+/// # use thalluskin::{utf8_step, CharCode};
+/// let text = "é0".as_bytes();
+/// assert_eq!(utf8_step(text, 0)?, Some((CharCode(0xe9), 2)));
+/// assert_eq!(utf8_step(text, 3)?, None);
+/// assert_eq!(utf8_step(text, 1).unwrap_err().number, 19);
+/// # Ok::<(), thalluskin::Refusal>(())
+/// ```
+pub fn utf8_step(text: &[u8], i: usize) -> Result<Option<(CharCode, usize)>, Refusal> {
+    let a = calls::utf8_step(text, i);
+    answer(a.refusal, a.place, if a.found { Some((a.code, a.next)) } else { None })
+}

@@ -1,0 +1,257 @@
+"""Calls of the exported functions, and what the model of document 01 answers to each."""
+import copy
+import os
+import sys
+
+TESTS = os.path.dirname(os.path.dirname(os.path.abspath(__file__)))
+sys.path.insert(0, TESTS)
+
+from definitions import model  # noqa: E402
+from draws import calls, expected  # noqa: E402
+from draws import make as draws  # noqa: E402
+from dump import make as dump  # noqa: E402
+from exports import layouts  # noqa: E402
+from fonts import make as fonts  # noqa: E402
+from fonts.make import BIG, TOP  # noqa: E402
+
+LAST = calls.LAST
+# as tests/exports/replay.c numbers them
+KINDS = ["thk_load", "thk_vet", "thk_property", "thk_glyph", "thk_name", "thk_metrics", "thk_dimensions",
+         "thk_prep_char", "thk_draw_bitmap", "thk_draw_glyph", "thk_draw_char", "thk_unpack_glyph", "thk_draw_string",
+         "thk_text_check", "thk_utf8_step"]
+ANSWERS = {name: answer for name, (_, answer) in layouts.functions().items()}
+NUMBERS = ["code", "glyph", "width", "height", "pad_top", "pad_left", "len", "start", "wrap", "stride", "scale",
+           "colour"]
+
+
+def zeros(kind):
+    return 0 if kind in layouts.PLAIN else {name: zeros(of) for name, of in layouts.STRUCTS[kind]}
+
+
+NO_RECORD = zeros("Record")
+
+# ---- a call: the function, the font's bytes, the record, a text, the buffer before, and the numbers
+
+
+def call(function, font=b"", rec=None, text=b"", buf=(), **numbers):
+    return {"function": function, "font": font, "rec": rec or NO_RECORD, "text": text, "buf": list(buf), **numbers}
+
+
+def info_of(c):
+    return {name: c.get(name, 0) for name in ("glyph", "width", "height", "pad_top", "pad_left")}
+
+
+def dry(*arguments):
+    kept, model.coloured = model.coloured, lambda buf, pixels, colour: buf
+    try:
+        return model.draw_string(*arguments)[0]
+    finally:
+        model.coloured = kept
+
+
+def answered(c):
+    """the answer's values, and the buffer after the call"""
+    b, rec, buf, function = c["font"], c["rec"], c["buf"], c["function"]
+    where = [c.get(name, 0) for name in ("start", "stride", "scale")]
+    colour = c.get("colour", 0)
+    if function == "thk_load":
+        return {"rec": model.load(b)}, buf
+    if function == "thk_vet":
+        return {"rec": model.vet(b)}, buf
+    if function == "thk_property":
+        start, length, is_string, *value = model.prop_at(b, rec, c["code"])
+        string = {"start": value[0], "len": value[1]} if is_string else {"start": 0, "len": 0}
+        return {"name": {"start": start, "len": length}, "is_string": is_string,
+                "number": 0 if is_string else value[0], "string": string}, buf
+    if function == "thk_glyph":
+        return {"glyph": model.get_glyph(b, rec, c["code"])}, buf
+    if function == "thk_name":
+        start, length = model.get_name(b, rec, c["glyph"])
+        return {"name": {"start": start, "len": length}}, buf
+    if function == "thk_metrics":
+        return {"metrics": model.get_metrics(b, rec, c["glyph"])}, buf
+    if function == "thk_dimensions":
+        height, width = model.dimensions(b, rec)
+        return {"extent": {"height": height, "width": width}}, buf
+    if function == "thk_prep_char":
+        return {"info": model.prep_char(b, rec, c["code"])}, buf
+    if function == "thk_draw_bitmap":
+        rows, new = model.draw_bitmap(b, rec, c["glyph"], c["width"], c["height"], buf, *where, colour)
+        return {"rows": {"drawn": rows[0], "dropped": rows[1]}}, new
+    if function == "thk_draw_glyph":
+        rows, new = model.draw_glyph(b, rec, info_of(c), buf, *where, colour)
+        return {"rows": {"drawn": rows[0], "dropped": rows[1]}}, new
+    if function == "thk_draw_char":
+        (info, drawn, dropped), new = model.draw_char(b, rec, c["code"], buf, *where, colour)
+        return {"info": info, "rows": {"drawn": drawn, "dropped": dropped}}, new
+    if function == "thk_unpack_glyph":
+        rows, new = model.unpack_glyph(b, rec, info_of(c), buf, *where[:2])
+        return {"rows": rows}, new
+    wrap = None if c.get("wrap", 0) == LAST else c.get("wrap", 0)
+    if function == "thk_draw_string":
+        rows, new = model.draw_string(b, rec, c["text"], buf, where[0], wrap, *where[1:], colour)
+        return {"rows": {"height": rows[0], "dropped": rows[1]}}, new
+    if function == "thk_text_check":
+        rows = dry(b, rec, c["text"], expected.Length(c["len"]), where[0], wrap, *where[1:], 0)
+        return {"rows": {"height": rows[0], "dropped": rows[1]}}, buf
+    step = model.utf8_step(c["text"], c["start"])
+    return {"found": step is not None, "code": step[0] if step else 0, "next": step[1] if step else 0}, buf
+
+
+def expected_of(c):
+    """the answer's numbers by their paths, and the buffer after the call"""
+    kind = ANSWERS[c["function"]]
+    try:
+        values, buf = answered(c)
+        return kind, layouts.flat(kind, {"refusal": 0, "place": 0, **values}), buf
+    except model.Refused as r:
+        none = {path: 0 for path, _, _ in layouts.leaves(kind)}
+        return kind, {**none, ("refusal",): r.number, ("place",): r.place}, c["buf"]
+
+
+def encoded(c, same_font):
+    """as replay.c reads it"""
+    words = [KINDS.index(c["function"]), LAST if same_font else len(c["font"]), len(c["text"]), len(c["buf"])]
+    words += [c.get(name, 0) for name in NUMBERS]
+    size = 1 if c["function"] == "thk_unpack_glyph" else 4
+    return (b"".join(calls.low_bytes(n, 8) for n in words) + layouts.put("Record", c["rec"])
+            + (b"" if same_font else c["font"]) + c["text"] + b"".join(calls.low_bytes(n, size) for n in c["buf"]))
+
+
+# ---- the calls
+
+
+def drawn():
+    """every call of the program crates/draws whose function is exported, a text's also as a dry run"""
+    for sections in draws.inputs().values():
+        for b, of_font in sections:
+            try:
+                rec = model.load(b)
+            except model.Refused:
+                rec = NO_RECORD
+            for k, c in enumerate(of_font):
+                yield from as_exported(b, expected.changed(rec, c.get("rec", {})), c, calls.colour(c, k))
+
+
+def as_exported(b, rec, c, colour):
+    kind, length = c["call"], c.get("len", 0)
+    numbers = {name: c[name] for name in ("start", "stride", "scale", "code") if name in c}
+    if kind == "step_at":
+        yield call("thk_utf8_step", text=c["text"], start=c["start"])
+    elif kind == "prep_char":
+        yield call("thk_prep_char", b, rec, **numbers)
+        yield call("thk_glyph", b, rec, **numbers)
+    elif kind == "draw_string":
+        numbers["wrap"] = LAST if c["wrap"] is None else c["wrap"]
+        yield call("thk_text_check", b, rec, c["text"], len=length, **numbers)
+        if length <= calls.MOST:
+            yield call("thk_draw_string", b, rec, c["text"], expected.before(length), colour=colour, **numbers)
+    elif length <= calls.MOST and kind != "show_glyph":
+        numbers.update(c.get("info") or calls.box(c.get("g", 0), c.get("width", 0), c.get("height", 0)))
+        yield call("thk_" + kind, b, rec, buf=expected.before(length), colour=colour, **numbers)
+
+
+def distinct():
+    """a font of whose record no two numbers of a kind are the same; its six kinds are preceded by other tables, so that
+    they stand far from each other"""
+    def gap(n):
+        return fonts.other(4096 + n, bytes(4 * n))
+    form = BIG
+    return fonts.font([
+        gap(1), fonts.names(form, list(range(0, 33, 3)), b"".join(b"%02d\0" % k for k in range(11)) + b"\0"),
+        gap(9), fonts.codes(form, (5, 12), (2, 3), 0x1234, list(range(16))),
+        gap(25), fonts.properties(form, [(0, 1, 7), (13, 0, 305419896), (7, 255, 17)], b"FAMILY\0Meter\0SIZE\0"),
+        gap(64), fonts.accelerators(form | 512, [11, 12, 13, 14, 15, 16, 17, 18], 70001, -70002, 70003,
+                                    (-21, 22, -23, 24, -25, 26), (31, 32, 33, 34, 35, 36)),
+        gap(100), fonts.narrow_metrics(form, [(k, k + 1, k + 2, 20, k + 4) for k in range(7)]),
+        gap(5), fonts.bitmaps(form | TOP | 2, [0, 4, 8, 12], [10, 20, 40, 80], bytes(range(200, 240))),
+    ])
+
+
+def one_big(big):
+    """the two digits, with one table big-endian"""
+    forms = [BIG if k == big else 0 for k in range(5)]
+    return dump.digits_but(
+        fonts.properties(forms[0], [], b""), fonts.narrow_metrics(forms[1], [fonts.THREE[:5]] * 2),
+        fonts.bitmaps(forms[2] | TOP, [0, 3], [6, 12, 24, 48], b"\xe0\xa0\xe0\x40\x40\x40"),
+        fonts.codes(forms[3], (0x30, 0x31), (0, 0), 0x30, [0, 1]), fonts.names(forms[4], [0, 4], b"nil\0one\0"))
+
+
+def test_fonts():
+    own = {"distinct": distinct(), **{"big_%d" % k: one_big(k) for k in range(5)}}
+    return {**own, **fonts.files(), **dump.font_files()}
+
+
+def read():
+    """loading, vetting and every question of reading, of the fonts of other tests"""
+    for b in test_fonts().values():
+        yield call("thk_load", b)
+        yield call("thk_vet", b)
+        try:
+            rec = model.load(b)
+        except model.Refused:
+            continue
+        yield from questions(b, rec)
+
+
+def questions(b, rec):
+    yield call("thk_dimensions", b, rec)
+    for number in sorted({0, 1, 2, 3, rec["props"]["count"], 2 ** 32 - 1}):
+        yield call("thk_property", b, rec, code=number)
+    c = rec["codes"]
+    codes = {0, 0x30, 0x31, 0x41, 65535, 65536, 0x10041, 2 ** 32 - 1}
+    for first, second in ((c["low1"], c["low2"]), (c["high1"], c["high2"]), (c["low1"], c["high2"])):
+        codes |= {(256 * first + second + k) % 2 ** 32 for k in (-1, 0, 1)}
+    for code in sorted(codes):
+        yield call("thk_glyph", b, rec, code=code)
+        yield call("thk_prep_char", b, rec, code=code)
+    for table, function in (("names", "thk_name"), ("metrics", "thk_metrics")):
+        for glyph in sorted({0, 1, 2, 3, rec[table]["count"] % 65536, 65535}):
+            yield call(function, b, rec, glyph=glyph)
+
+
+def wrong_records():
+    """every question with records that do not fit, or fit though no loading gave them"""
+    for b in (fonts.two_digits(), distinct()):
+        rec = model.load(b)
+        for change in [*calls.damages(b), *calls.fitting(b)]:
+            made = copy.deepcopy(rec)
+            for path, value in change.items():
+                *parts, last = path.split("__")
+                layouts.at(made, parts)[last] = value
+            yield call("thk_dimensions", b, made)
+            for code in (0, 0x30, 0x205):
+                yield call("thk_glyph", b, made, code=code)
+                yield call("thk_prep_char", b, made, code=code)
+            for number in (0, 1):
+                yield call("thk_name", b, made, glyph=number)
+                yield call("thk_metrics", b, made, glyph=number)
+                yield call("thk_property", b, made, code=number)
+
+
+def empty():
+    """nothing lent: no font, no text, no buffer, each for itself and together"""
+    f = fonts.two_digits()
+    rec = model.load(f)
+    for b, of_font in ((f, rec), (b"", rec), (b"", NO_RECORD)):
+        where = {"start": 0, "stride": 3, "scale": 1, "colour": 5}
+        box = {"glyph": 1, "width": 3, "height": 3}
+        yield call("thk_load", b)
+        yield call("thk_vet", b)
+        yield from questions(b, of_font)
+        for buf in ([], [7] * 9):
+            yield call("thk_draw_bitmap", b, of_font, buf=buf, **box, **where)
+            yield call("thk_draw_glyph", b, of_font, buf=buf, **box, **where)
+            yield call("thk_draw_char", b, of_font, buf=buf, code=0x31, **where)
+            yield call("thk_unpack_glyph", b, of_font, buf=buf, **box, **where)
+            for text in (b"", b"01"):
+                for wrap in (0, LAST):
+                    yield call("thk_draw_string", b, of_font, text, buf, wrap=wrap, **where)
+                    yield call("thk_text_check", b, of_font, text, len=len(buf), wrap=wrap, **where)
+    for i in (0, 1, LAST):
+        yield call("thk_utf8_step", text=b"", start=i)
+
+
+def all_calls():
+    for group in (read, wrong_records, empty, drawn):
+        yield from group()
