@@ -156,6 +156,8 @@ use Rattle.utf8.proofs.step_at.Kinds as step-at-kinds
 use Rattle.utf8.proofs.step_at.Reads as step-at-reads
 use Rattle.utf8.proofs.check.Kinds as check-kinds
 use Rattle.utf8.proofs.check.Reads as check-reads
+use Rattle.text.proofs.wrap_of.Kinds as wrap-of-kinds
+use Rattle.text.proofs.wrap_of.Reads as wrap-of-reads
 use Rattle.text.proofs.text_check.Kinds as text-check-kinds
 use Rattle.text.proofs.text_check.Reads as text-check-reads
 use Rattle.text.proofs.draw_string.Kinds as draw-string-kinds
@@ -386,6 +388,9 @@ step-at-unique κs a r₁ r₂ x₁ x₂ p q = p ∙ sym q
 
 pub check-unique : Fixes 1 check-kinds.ps check-kinds.r check-reads.Post
 check-unique κs a r₁ r₂ x₁ x₂ p q = p ∙ sym q
+
+pub wrap-of-unique : Fixes 0 wrap-of-kinds.ps wrap-of-kinds.r wrap-of-reads.Post
+wrap-of-unique κs a r₁ r₂ x₁ x₂ p q = p ∙ sym q
 
 pub text-check-unique : Fixes 2 text-check-kinds.ps text-check-kinds.r text-check-reads.Post
 text-check-unique κs a r₁ r₂ x₁ x₂ p q = p ∙ sym q

@@ -41,6 +41,10 @@ advanceOf lay i = i .width * lay .scale
 abbrev pub moved : Layout → GlyphInfo → Pen → Pen
 moved lay i pen = record { x = pen .x + advanceOf lay i; y = pen .y }
 
+-- "`wrap_at` is any 64-bit number or none": as one number, none is the one with every bit set
+unfoldable pub wrapOf : ℕ → Wrap
+wrapOf n = cond (eqb n 18446744073709551615) Wrap.Never (Wrap.At n)
+
 -- "x + width × scale >= wrap_at"
 abbrev pub reaches : Wrap → ℕ → Bool
 reaches (Wrap.At w) x = leb w x

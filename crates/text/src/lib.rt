@@ -9,6 +9,7 @@ use place::GlyphInfo;
 use reads::Refusal;
 pub use string::draw_string;
 pub use string::text_check;
+pub use string::wrap_of;
 
 // Where a line ends: before a glyph that would reach this many pixels, or nowhere.
 pub enum Wrap {

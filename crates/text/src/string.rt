@@ -16,6 +16,7 @@ use utf8::check;
 ghost use mathlib.Core.Path.{_≡_};
 ghost use lib.ListN.{length};
 ghost use Rattle.text.specs.Text.{ready, drawString, stringLeaves};
+ghost use Rattle.text.specs.Walk.{wrapOf};
 
 // The line height, or what refuses the text before its first character: 6, 15, 19, or 11 for the bounds.
 fn ready_for(bytes: &[u8], rec: Record, text: &[u8], lay: Layout) -> Ready
@@ -126,4 +127,14 @@ pub fn draw_string(
         }
         Ready::Refused(r) => TextDrawn::Refused(r),
     }
+}
+
+// Where lines end, said in one number: nowhere, if every bit is set. No line gets so long.
+pub fn wrap_of(number: u64) -> Wrap
+    ensures { λ r. ⌜ r ≡ wrapOf number ⌝ }
+{
+    if number == 18446744073709551615 {
+        return Wrap::Never;
+    }
+    Wrap::At(number)
 }

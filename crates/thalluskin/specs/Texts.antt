@@ -1,18 +1,14 @@
 -- What the exported functions of texts take and answer.
 use Prim.Native.Nat.{ℕ}
-use mathlib.Core.Bool.{true, false, cond}
-use lib.Dec.{eqb}
-use Rattle.text.specs.declared.Wrap.{Wrap}
+use mathlib.Core.Bool.{true, false}
+use Rattle.text.specs.Walk.{wrapOf}
 use Rattle.text.specs.declared.Layout.{Layout}
 use Rattle.text.specs.declared.TextDrawn.{TextDrawn}
 use Rattle.utf8.specs.declared.Step.{Step}
 use Rattle.thalluskin.specs.declared.TextAnswer.{TextAnswer}
 use Rattle.thalluskin.specs.declared.StepAnswer.{StepAnswer}
 
--- "`wrap_at` is any 64-bit number or none": none is the number with every bit set
-unfoldable pub wrapOf : ℕ → Wrap
-wrapOf wrap = cond (eqb wrap 18446744073709551615) Wrap.Never (Wrap.At wrap)
-
+-- where and how a text is set, with `wrap` as one number
 abbrev pub layout : ℕ → ℕ → ℕ → ℕ → Layout
 layout start wrap stride scale = record { start = start; wrap = wrapOf wrap; stride = stride; scale = scale }
 

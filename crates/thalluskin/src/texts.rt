@@ -5,26 +5,16 @@ use reads::CharCode;
 use tables::Record;
 use text::TextDrawn;
 use text::TextRows;
-use text::Wrap;
 use text::draw_string;
 use text::text_check;
+use text::wrap_of;
 use utf8::Step;
 use utf8::step_at;
 ghost use mathlib.Core.Path.{_≡_};
 ghost use lib.ListN.{length};
 ghost use Rattle.text.specs.Text.{drawString, stringLeaves};
 ghost use Rattle.utf8.specs.Step.{stepAt};
-ghost use Rattle.thalluskin.specs.Texts.{wrapOf, layout, textAnswer, stepAnswer};
-
-// Where lines end: nowhere, if every bit is set.
-fn wrap_of(wrap: u64) -> Wrap
-    ensures { λ r. ⌜ r ≡ wrapOf wrap ⌝ }
-{
-    if wrap == 18446744073709551615 {
-        return Wrap::Never;
-    }
-    Wrap::At(wrap)
-}
+ghost use Rattle.thalluskin.specs.Texts.{layout, textAnswer, stepAnswer};
 
 // What drawing a text answered.
 fn text_answer(drawn: TextDrawn) -> TextAnswer

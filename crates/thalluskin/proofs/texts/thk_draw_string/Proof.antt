@@ -2,23 +2,23 @@ use borrow.Author.Needs.{needs}
 use Rattle.thalluskin.proofs.texts.thk_draw_string.Statement.{statement}
 use Rattle.thalluskin.proofs.texts.thk_draw_string.Tie as tie
 
--- src/texts.rt:67:9
+-- src/texts.rt:57:9
 wrap-of-requires : tie.Need-wrap-of-requires
 wrap-of-requires c κs = search needs
 
--- src/texts.rt:68:17
+-- src/texts.rt:58:17
 draw-string-requires : tie.Need-draw-string-requires
 draw-string-requires c κs = search needs
 
--- src/texts.rt:68:5
+-- src/texts.rt:58:5
 text-answer-requires : tie.Need-text-answer-requires
 text-answer-requires c κs = search needs
 
--- src/texts.rt:52:1
+-- src/texts.rt:42:1
 same-length : tie.Need-same-length
 same-length c = search needs
 
--- src/texts.rt:52:1
+-- src/texts.rt:42:1
 returns : tie.Need-returns
 returns c = (rw (c .text-answer .ensures, c .before .before .before .draw-string .ensures .0, c .before .before .before .before .before .wrap-of .ensures), rw (← c .before .before .before .before .before .wrap-of .ensures, ← c .before .before .before .draw-string .ensures .0) (c .before .before .before .draw-string .ensures .1))
 
