@@ -276,9 +276,12 @@ def openings():
 
 
 def crates():
+    """the libraries that have definitions"""
     with open(os.path.join(ROOT, "crates.txt"), encoding="utf-8") as f:
         listed = re.findall(r"^(\w+):", f.read(), re.M)
-    return [c for c in listed if c != "promises" and os.path.isdir(os.path.join(ROOT, "crates", c, "specs"))]
+    listed.remove("promises")
+    at = os.path.join(ROOT, "crates")
+    return [c for c in listed if os.path.isdir(f"{at}/{c}/specs") and os.path.exists(f"{at}/{c}/src/lib.rt")]
 
 
 def types_only(source):

@@ -1,0 +1,118 @@
+// Draws a text with a font on a panel and prints the panel, as half blocks or as a picture. Standard input
+// has what is asked, the text and the font; see `asked`.
+mod asked;
+mod blocks;
+mod lines;
+mod picture;
+mod words;
+
+use crate::asked::Asked;
+use crate::asked::HEAD;
+use crate::asked::PICTURE;
+use crate::asked::Request;
+use crate::asked::asked_of;
+use crate::blocks::print_blocks;
+use crate::picture::print_picture;
+use crate::words::number;
+use crate::words::refusal;
+use crate::words::say;
+use tables::Record;
+use text::TextDrawn;
+use text::TextRows;
+use text::draw_string;
+use vet::Vetted;
+ghost use mathlib.Core.Path.{_≡_};
+ghost use Prim.Native.Nat.{_≤_};
+ghost use lib.ListN.{length};
+ghost use Rattle.panel.specs.Asked.{Sized};
+
+// 65,536 bytes of a text, which is one more than the library takes, and 393,216 of a font.
+const MOST: usize = 28 + 65536 + 393216;
+
+const PIXELS: usize = 65536;
+
+const COLOUR: u32 = 1;
+
+// The panel; after half blocks, what the text lost and how high it is.
+fn print_panel(r: Request, pixels: &[u32], rows: TextRows, out: &mut [u8])
+    requires { ⌜ (length (now pixels) ≤ 65536) × Sized r × (4 ≤ length (now out)) ⌝ }
+{
+    if r.kind == PICTURE {
+        print_picture(pixels, r.width, r.height, out);
+        return;
+    }
+    print_blocks(pixels, r.width, out);
+    number(b"dropped ", rows.dropped);
+    number(b" height ", rows.height);
+    say(b"\n");
+}
+
+// The panel's pixels, all of them 0, are coloured and printed.
+fn with_panel(r: Request, rec: Record, text: &[u8], font: &[u8], panel: &mut [u32], out: &mut [u8])
+    requires { ⌜ (length (now panel) ≤ 65536) × Sized r × (4 ≤ length (now out)) ⌝ }
+{
+    let wrap = r.wrap;
+    let drawn = draw_string(
+        font,
+        rec,
+        text,
+        &mut *panel,
+        0,
+        wrap,
+        r.width,
+        r.scale,
+        COLOUR,
+    );
+    match drawn {
+        TextDrawn::Done(rows) => print_panel(r, panel, rows, out),
+        TextDrawn::Refused(no) => refusal(no, b"text"),
+    }
+}
+
+fn with_font(r: Request, text: &[u8], font: &[u8], panel: &mut [u32], out: &mut [u8])
+    requires { ⌜ (length (now panel) ≤ 65536) × Sized r × (4 ≤ length (now out)) ⌝ }
+{
+    match vet::vet(font) {
+        Vetted::Passed(rec) => with_panel(r, rec, text, font, panel, out),
+        Vetted::Refused(no) => refusal(no, b"font"),
+    }
+}
+
+fn show(input: &[u8], pixels: &mut [u32], out: &mut [u8])
+    requires { ⌜ (65536 ≤ length (now pixels)) × (4 ≤ length (now out)) ⌝ }
+{
+    let asked = asked_of(input);
+    match asked {
+        Asked::For(r) => {
+            let end = HEAD + r.text as usize;
+            with_font(
+                r,
+                &input[HEAD..end],
+                &input[end..],
+                &mut pixels[..r.len],
+                out,
+            );
+        }
+        Asked::Bad => say(b"bad input\n"),
+    }
+}
+
+// A clear panel. The `ensures` gives the length alone, which lending it needs.
+fn clear() -> [u32; PIXELS]
+    ensures { λ r. ⌜ 65536 ≡ length r ⌝ }
+{
+    [0; PIXELS]
+}
+
+// Input that fills the buffer may be longer than it, and is not read as one.
+fn main() {
+    let mut input = [0u8; MOST + 1];
+    let n = io::read_full(0, &mut input);
+    if MOST < n {
+        say(b"bad input\n");
+        return;
+    }
+    let mut pixels = clear();
+    let mut out = io::buffer();
+    show(&input[..n], &mut pixels, &mut out);
+}

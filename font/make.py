@@ -1,0 +1,196 @@
+#!/usr/bin/env python3
+"""Makes the meter's font, font/meter.hex, from the drawing of its letters in font/letters.txt: a PCF file
+as lines of hexadecimal digits, which is what the dump program reads.
+
+Without arguments it says whether meter.hex is what the drawing gives; with --write it stores that."""
+import os
+import re
+import sys
+
+HERE = os.path.dirname(os.path.abspath(__file__))
+LETTERS = os.path.join(HERE, "letters.txt")
+FONT = os.path.join(HERE, "meter.hex")
+PROPERTIES = [("FONT", "Thalluskin Meter"), ("FAMILY_NAME", "Meter"), ("PIXEL_SIZE", 10), ("FONT_ASCENT", 7),
+              ("FONT_DESCENT", 3)]
+BASE = 7            # rows above the base line
+LEAST_UNLIKE = 5    # pixels in which any two digits differ
+NO_GLYPH = 65535
+TOP, COMPRESSED = 8, 256  # format bits, by their value
+
+
+def fail(text):
+    print(text)
+    sys.exit(1)
+
+
+# ---- the drawing
+
+
+def letters(text):
+    """(code, name, rows) of each letter, in the order of their codes"""
+    found = []
+    for block in re.sub(r"(?m)^//.*\n", "", text).strip().split("\n\n"):
+        head, *rows = block.split("\n")
+        named = re.fullmatch(r"([0-9A-F]{4}) (\w+)", head)
+        if not named:
+            fail("not a code and a name: %s" % head)
+        if len(rows) < BASE or len({len(row) for row in rows}) != 1 or not set("".join(rows)) <= {".", "#"}:
+            fail("%s: not %d or more rows of '.' and '#', all of one width" % (head, BASE))
+        if any(row.endswith("#") for row in rows):
+            fail("%s: it touches the next letter" % head)
+        found.append((int(named[1], 16), named[2], rows))
+    if [code for code, _, _ in found] != sorted({code for code, _, _ in found}):
+        fail("the codes do not ascend")
+    return found
+
+
+def tell_apart(found):
+    """A digit that is taken for another is a wrong bill."""
+    digits = [rows for code, _, rows in found if 0x30 <= code <= 0x39]
+    if len(digits) != 10 or len({(len(rows), len(rows[0])) for rows in digits}) != 1:
+        fail("the ten digits are not all of one width and height")
+    drawn = ["".join(rows) for rows in digits]
+    for i in range(10):
+        for k in range(i):
+            if sum(a != b for a, b in zip(drawn[i], drawn[k])) < LEAST_UNLIKE:
+                fail("the digits %d and %d are hard to tell apart" % (k, i))
+    if len({tuple(rows) for _, _, rows in found}) != len(found):
+        fail("two letters have the same drawing")
+
+
+def cut(rows):
+    """the rows without clear ones above and below, and how many of them stand above the base line"""
+    set_rows = [i for i, row in enumerate(rows) if "#" in row]
+    if not set_rows:
+        return [], 0
+    first, end = set_rows[0], set_rows[-1] + 1
+    return rows[first:end], BASE - first
+
+
+# ---- the file: format 0, so the least significant byte first
+
+
+def u16(*numbers):
+    return b"".join(n.to_bytes(2, "little", signed=n < 0) for n in numbers)
+
+
+def u32(*numbers):
+    return b"".join(n.to_bytes(4, "little") for n in numbers)
+
+
+def padded(b):
+    return b + bytes(-len(b) % 4)
+
+
+class Strings:
+    """zero-ended strings, and where each begins"""
+    def __init__(self):
+        self.all = b""
+
+    def add(self, text):
+        at = len(self.all)
+        self.all += text.encode() + b"\0"
+        return at
+
+
+def properties():
+    strings, records = Strings(), b""
+    for name, value in PROPERTIES:
+        is_string = isinstance(value, str)
+        records += u32(strings.add(name)) + bytes([is_string])
+        records += u32(strings.add(value) if is_string else value)
+    return padded(u32(0, len(PROPERTIES)) + records) + u32(len(strings.all)) + strings.all
+
+
+def accelerators(metrics):
+    """no overlap, ink inside; the letters' ascent and descent; the least and the greatest of each metric"""
+    least = [min(column) for column in zip(*metrics)]
+    greatest = [max(column) for column in zip(*metrics)]
+    flags = bytes([1, 0, 0, 0, 1, 0, 0, 0])
+    return u32(0) + flags + u32(greatest[3], greatest[4], 0) + u16(*least, 0) + u16(*greatest, 0)
+
+
+def compressed(metrics):
+    return u32(COMPRESSED) + u16(len(metrics)) + b"".join(bytes(n + 128 for n in m) for m in metrics)
+
+
+def row_bytes(row):
+    bits = row.replace(".", "0").replace("#", "1")
+    return bytes(int(bits[i:i + 8].ljust(8, "0"), 2) for i in range(0, len(bits), 8))
+
+
+def bitmaps(pictures):
+    """the data's size is said once for each row pad that a reader may ask for"""
+    bits, offsets = b"", []
+    for rows in pictures:
+        offsets.append(len(bits))
+        bits += b"".join(row_bytes(row) for row in rows)
+    widths = [(len(rows), len(rows[0]) if rows else 0) for rows in pictures]
+    sizes = [sum(n * pad * -(-width // (8 * pad)) for n, width in widths) for pad in (1, 2, 4, 8)]
+    return u32(TOP, len(pictures), *offsets, *sizes) + bits
+
+
+def codes(of_glyphs):
+    low, high = of_glyphs[0], of_glyphs[-1]
+    entries = [of_glyphs.index(code) if code in of_glyphs else NO_GLYPH for code in range(low, high + 1)]
+    return u32(0) + u16(low, high, 0, 0, ord("?")) + u16(*entries)
+
+
+def glyph_names(of_glyphs):
+    strings = Strings()
+    offsets = [strings.add(name) for name in of_glyphs]
+    return u32(0, len(offsets), *offsets, len(strings.all)) + strings.all
+
+
+def font_of(found):
+    """The bitmap of a glyph is as wide as the pen moves, so its right bearing is its width."""
+    metrics, pictures = [], []
+    for _, _, rows in found:
+        picture, ascent = cut(rows)
+        width = len(rows[0])
+        metrics.append((0, width, width, ascent, len(picture) - ascent))
+        pictures.append(picture)
+    tables = [
+        (1, 0, properties()),
+        (2, 0, accelerators(metrics)),
+        (4, COMPRESSED, compressed(metrics)),
+        (8, TOP, bitmaps(pictures)),
+        (32, 0, codes([code for code, _, _ in found])),
+        (128, 0, glyph_names([name for _, name, _ in found])),
+    ]
+    directory, body = b"", b""
+    for kind, form, table in tables:
+        directory += u32(kind, form, len(table), 8 + 16 * len(tables) + len(body))
+        body += padded(table)
+    return b"\1fcp" + u32(len(tables)) + directory + body
+
+
+def lines(content):
+    text = content.hex().upper()
+    return "".join(text[i:i + 64] + "\n" for i in range(0, len(text), 64))
+
+
+def stored_font():
+    """the bytes of the stored font"""
+    with open(FONT, encoding="ascii") as f:
+        return bytes.fromhex(f.read())
+
+
+def main():
+    with open(LETTERS, encoding="ascii") as f:
+        found = letters(f.read())
+    tell_apart(found)
+    made = font_of(found)
+    if sys.argv[1:] == ["--write"]:
+        with open(FONT, "w", encoding="ascii") as f:
+            f.write(lines(made))
+    elif sys.argv[1:]:
+        fail("make.py takes --write or nothing")
+    with open(FONT, encoding="ascii") as f:
+        if f.read() != lines(made):
+            fail("font/meter.hex is not what font/letters.txt gives")
+    print("font: %d letters, %d bytes, as they are drawn" % (len(found), len(made)))
+
+
+if __name__ == "__main__":
+    main()
