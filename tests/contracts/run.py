@@ -41,6 +41,12 @@ def fixed_by(text):
         stated = re.search(theorem, text, re.M)
         if kinds in text.split("\n") and stated:
             yield (crate, name), stated[1] == "Lent"
+    for crate, name, short in re.findall(r"^use Rattle·(\w+)\.proofs\.(?:Font\.)?(\w+) as (view-\S+)$", text, re.M):
+        s = re.escape(short)
+        theorem = rf"^  pub {s}-unique : FixesSaid 𝓤 {s}\.ended \({s}\.clauses 𝓤 H A mem run\) (.*)$"
+        stated = re.search(theorem, text, re.M)
+        if stated:
+            yield (crate, name), "now (x₁" in stated[1]
 
 
 def main():

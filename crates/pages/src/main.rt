@@ -1,17 +1,17 @@
-// Draws texts with font F, which standard input has as lines of hexadecimal digits, and prints what each
-// leaves in its buffer as rows of dots.
+// Draws texts with font F, which standard input has as lines of hexadecimal digits, through the view of a
+// font, and prints what each leaves in its buffer as rows of dots.
 mod words;
 
 use crate::words::number;
 use crate::words::quoted;
 use crate::words::say;
+use font::string_through;
 use hexline::HexRead;
 use hexline::fill_bytes;
 use reads::Refusal;
 use tables::Record;
 use text::TextDrawn;
 use text::Wrap;
-use text::draw_string;
 use text::text_check;
 use vet::Vetted;
 ghost use mathlib.Core.Path.{_≡_};
@@ -104,7 +104,7 @@ fn page(
 {
     let mut buf = fresh(old);
     asked(title, text, len, stride, wrap, scale);
-    answer(draw_string(
+    answer(string_through(
         font,
         rec,
         text,

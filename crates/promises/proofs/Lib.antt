@@ -2,6 +2,7 @@ mod ProvedCases
 mod DumpF
 mod Unique
 mod UniqueExports
+mod UniqueFont
 mod RecordTest
 mod Numbered
 mod NumberedDrawing

@@ -305,7 +305,7 @@ pub name-bytes-unique : FixesBytes 1 name-bytes-kinds.ps name-bytes-kinds.r name
 name-bytes-unique κs a r₁ r₂ x₁ x₂ p q = p ∙ sym q
 
 -- an answer that is one value, and a buffer that is left as the answer says
-both-fixed : {A : Type 0} {x r₁ r₂ : A} {n₁ n₂ : List ℕ} (left : A → List ℕ) → r₁ ≡ x → r₂ ≡ x → n₁ ≡ left r₁ → n₂ ≡ left r₂ → (r₁ ≡ r₂) × (n₁ ≡ n₂)
+pub both-fixed : {A : Type 0} {x r₁ r₂ : A} {n₁ n₂ : List ℕ} (left : A → List ℕ) → r₁ ≡ x → r₂ ≡ x → n₁ ≡ left r₁ → n₂ ≡ left r₂ → (r₁ ≡ r₂) × (n₁ ≡ n₂)
 both-fixed left p q l m = let e = p ∙ sym q in (e, l ∙ ap left e ∙ sym m)
 
 pub fill-bytes-unique : FixesLent 2 fill-bytes-kinds.ps fill-bytes-kinds.r fill-bytes-reads.Post (λ κs x. now (x .1 .0))

@@ -18,12 +18,12 @@ array-borrow-prefix-buf : tie.Need-array-borrow-prefix-buf
 array-borrow-prefix-buf c = search needs
 
 -- src/main.rt:111:9
-slice-aggregate-draw-string : tie.Need-slice-aggregate-draw-string
-slice-aggregate-draw-string c = sym (length-take-le (c .before .before .before .before .before .before .args .len) (c .before .before .fresh .result) (omega arith))
+slice-aggregate-string-through : tie.Need-slice-aggregate-string-through
+slice-aggregate-string-through c = sym (length-take-le (c .before .before .before .before .before .before .args .len) (c .before .before .fresh .result) (omega arith))
 
 -- src/main.rt:107:12
-draw-string-requires : tie.Need-draw-string-requires
-draw-string-requires c κs = search needs
+string-through-requires : tie.Need-string-through-requires
+string-through-requires c κs = search needs
 
 -- src/main.rt:107:5
 answer-requires : tie.Need-answer-requires
@@ -76,8 +76,8 @@ page-spec =
     fresh-requires
     asked-requires
     array-borrow-prefix-buf
-    slice-aggregate-draw-string
-    draw-string-requires
+    slice-aggregate-string-through
+    string-through-requires
     answer-requires
     slice-aggregate-say
     say-requires

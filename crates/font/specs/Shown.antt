@@ -1,0 +1,52 @@
+-- Drawing with a font's bytes alone. From document 01: "A passed font is such bytes with the record that loading gave for them", and of a
+-- refusal "its number, a place and no other value; lent buffers keep their contents".
+use Prim.Native.Nat.{ℕ}
+use mathlib.Core.Bool.{Bool, cond}
+use mathlib.Core.List.{List}
+use Rattle.tables.specs.declared.Record.{Record}
+use Rattle.load.specs.Load.{loaded}
+use Rattle.load.specs.declared.Loaded.{Loaded}
+use Rattle.vet.specs.Vet.{vetted}
+use Rattle.vet.specs.declared.Vetted.{Vetted}
+use Rattle.glyphs.specs.Char.{drawChar, charLeaves}
+use Rattle.glyphs.specs.declared.CharDrawn.{CharDrawn}
+use Rattle.text.specs.Text.{drawString, stringLeaves}
+use Rattle.text.specs.declared.Layout.{Layout}
+use Rattle.text.specs.declared.TextDrawn.{TextDrawn}
+
+-- a passed font as loading answers it
+abbrev pub asLoaded : Vetted → Loaded
+asLoaded (Vetted.Passed rec) = Loaded.Font rec
+asLoaded (Vetted.Refused r) = Loaded.Refused r
+
+-- the record of these bytes, vetted or not
+unfoldable pub recordOf : List ℕ → Bool → Loaded
+recordOf s vetting = cond vetting (asLoaded (vetted s)) (loaded s)
+
+-- a character with what loading gave: drawn, or the refusal passed on
+abbrev pub charWith : Loaded → (Record → CharDrawn) → CharDrawn
+charWith (Loaded.Font rec) draw = draw rec
+charWith (Loaded.Refused r) draw = CharDrawn.Refused r
+
+abbrev pub stringWith : Loaded → (Record → TextDrawn) → TextDrawn
+stringWith (Loaded.Font rec) draw = draw rec
+stringWith (Loaded.Refused r) draw = TextDrawn.Refused r
+
+-- what is left in the buffer with what loading gave
+abbrev pub leftWith : Loaded → (Record → List ℕ) → List ℕ → List ℕ
+leftWith (Loaded.Font rec) leaves old = leaves rec
+leftWith (Loaded.Refused r) leaves old = old
+
+unfoldable pub showChar : List ℕ → Bool → ℕ → ℕ → ℕ → ℕ → ℕ → CharDrawn
+showChar s vetting code len start stride scale = charWith (recordOf s vetting) (λ rec. drawChar s rec code len start stride scale)
+
+unfoldable pub showCharLeaves : List ℕ → Bool → ℕ → ℕ → ℕ → ℕ → CharDrawn → List ℕ → List ℕ
+showCharLeaves s vetting start stride scale colour r old =
+    leftWith (recordOf s vetting) (λ rec. charLeaves s rec start stride scale colour r old) old
+
+unfoldable pub showString : List ℕ → Bool → List ℕ → ℕ → Layout → TextDrawn
+showString s vetting text len lay = stringWith (recordOf s vetting) (λ rec. drawString s rec text len lay)
+
+unfoldable pub showStringLeaves : List ℕ → Bool → List ℕ → Layout → ℕ → TextDrawn → List ℕ → List ℕ
+showStringLeaves s vetting text lay colour r old =
+    leftWith (recordOf s vetting) (λ rec. stringLeaves s rec text lay colour r old) old
