@@ -3,6 +3,7 @@
 it prints to the model of document 01. The script itself builds the programs that it runs."""
 import gzip
 import os
+import shlex
 import socket
 import subprocess
 import sys
@@ -341,6 +342,22 @@ def helped(folder):
         expect("help by %s" % words, run(*words, folder=folder), 0, text, None)
 
 
+def told_by_readme():
+    """what the README says that a command prints, which leaves out blanks at a line's end"""
+    with open(os.path.join(ROOT, "README.md"), encoding="utf-8") as text:
+        lines = text.read().split("\n")
+    for at, line in enumerate(lines):
+        if not line.startswith("    $ ./thalluskin "):
+            continue
+        end = at + 1
+        while lines[end].startswith("    ") or (lines[end] == "" and lines[end + 1].startswith("    ")):
+            end += 1
+        said = "".join(x[4:] + "\n" for x in lines[at + 1:end])
+        got = run(*shlex.split(line[len("    $ ./thalluskin "):]), folder=ROOT)
+        printed = "".join(x.rstrip() + "\n" for x in got.stdout.decode().splitlines())
+        expect("the README's " + line.strip(), got, 0, got.stdout if printed == said else said.encode(), None)
+
+
 def main():
     with tempfile.TemporaryDirectory() as folder:
         # the first runs may build the programs, and say so
@@ -357,6 +374,7 @@ def main():
         pictures(folder)
         no_room(folder)
         helped(folder)
+        told_by_readme()
     print("command: %d cases, as the model and the script's help say" % tried)
 
 

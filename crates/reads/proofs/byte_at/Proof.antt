@@ -5,15 +5,15 @@ use borrow.Author.Needs.{needs}
 use Rattle.reads.proofs.byte_at.Statement.{statement}
 use Rattle.reads.proofs.byte_at.Tie as tie
 
--- src/lib.rt:94:5
+-- src/lib.rt:96:5
 number-at-requires : tie.Need-number-at-requires
 number-at-requires c κs = search needs
 
--- src/lib.rt:94:5
+-- src/lib.rt:96:5
 cast-result : tie.Need-cast-result
 cast-result c = search needs
 
--- src/lib.rt:91:1
+-- src/lib.rt:93:1
 returns : tie.Need-returns
 returns c = c .number-at .ensures .0 ∙ one-digit (c .before .before .args .s .now) (c .before .before .args .start + c .before .before .args .offset)
 

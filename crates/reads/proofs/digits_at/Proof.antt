@@ -13,33 +13,33 @@ Inv-loop s at width big n₀ i₀ n i = (i ≤ width) × ((n ≡ digits (digitAt
 abbrev μ-loop : tie.MeasureT-loop
 μ-loop s at width big n₀ i₀ n i = width - i
 
--- src/lib.rt:55:5
+-- src/lib.rt:57:5
 loop-holds : tie.Need-loop-holds Inv-loop μ-loop
 unfolding digits
 loop-holds c =
     search needs
 
--- src/lib.rt:56:13
+-- src/lib.rt:58:13
 mul-n : tie.Need-mul-n Inv-loop μ-loop
 mul-n c = omega (arith, three-digits (c .before .loop .i) (c .before .before .before .args .width) (search needs) (search needs))
 
--- src/lib.rt:56:23
+-- src/lib.rt:58:23
 digit-at-requires : tie.Need-digit-at-requires Inv-loop μ-loop
 digit-at-requires c κs = search needs
 
--- src/lib.rt:56:13
+-- src/lib.rt:58:13
 add-n : tie.Need-add-n Inv-loop μ-loop
 add-n c = omega (arith, three-digits (c .before .before .loop .i) (c .before .before .before .before .args .width) (search needs) (search needs))
 
--- src/lib.rt:57:9
+-- src/lib.rt:59:9
 add-i : tie.Need-add-i Inv-loop μ-loop
 add-i c = search needs
 
--- src/lib.rt:55:5
+-- src/lib.rt:57:5
 loop-less : tie.Need-loop-less Inv-loop μ-loop
 loop-less c = search needs
 
--- src/lib.rt:55:5
+-- src/lib.rt:57:5
 loop-again : tie.Need-loop-again Inv-loop μ-loop
 loop-again c = (
   search needs,
@@ -49,7 +49,7 @@ loop-again c = (
   ),
 )
 
--- src/lib.rt:47:1
+-- src/lib.rt:49:1
 returns : tie.Need-returns Inv-loop μ-loop
 returns c = let e : c .before .loop .i ≡ c .before .before .before .args .width = omega arith in rw e at (c .before .loop .inv .1)
 

@@ -6,31 +6,31 @@ use borrow.Author.Needs.{needs}
 use Rattle.reads.proofs.i16_at.Statement.{statement}
 use Rattle.reads.proofs.i16_at.Tie as tie
 
--- src/lib.rt:117:9
+-- src/lib.rt:119:9
 number-at-requires : tie.Need-number-at-requires
 number-at-requires c κs = search needs
 
--- src/lib.rt:119:9
+-- src/lib.rt:121:9
 cast-result : tie.Need-cast-result
 cast-result c = search needs
 
--- src/lib.rt:121:18
+-- src/lib.rt:123:18
 sub-d : tie.Need-sub-d
 sub-d c = search needs
 
--- src/lib.rt:121:17
+-- src/lib.rt:123:17
 cast-d : tie.Need-cast-d
 cast-d c = search needs
 
--- src/lib.rt:122:9
+-- src/lib.rt:124:9
 sub-result : tie.Need-sub-result
 sub-result c = half-fits w16 (c .before .number-at .result) (c .if1 .left) (c .before .number-at .ensures .1)
 
--- src/lib.rt:114:1
+-- src/lib.rt:116:1
 returns : tie.Need-returns
 returns c = signed-is w16 2 (c .before .number-at .result) refl refl ∙ ap (signed 2) (c .before .number-at .ensures .0)
 
--- src/lib.rt:114:1
+-- src/lib.rt:116:1
 returns-2 : tie.Need-returns-2
 returns-2 c = half-is w16 (c .before .number-at .result) (c .if1 .left) (c .before .number-at .ensures .1) ∙ signed-is w16 2 (c .before .number-at .result) refl refl ∙ ap (signed 2) (c .before .number-at .ensures .0)
 

@@ -6,31 +6,31 @@ use borrow.Author.Needs.{needs}
 use Rattle.reads.proofs.i32_at.Statement.{statement}
 use Rattle.reads.proofs.i32_at.Tie as tie
 
--- src/lib.rt:130:9
+-- src/lib.rt:132:9
 number-at-requires : tie.Need-number-at-requires
 number-at-requires c κs = search needs
 
--- src/lib.rt:132:9
+-- src/lib.rt:134:9
 cast-result : tie.Need-cast-result
 cast-result c = search needs
 
--- src/lib.rt:134:18
+-- src/lib.rt:136:18
 sub-d : tie.Need-sub-d
 sub-d c = search needs
 
--- src/lib.rt:134:17
+-- src/lib.rt:136:17
 cast-d : tie.Need-cast-d
 cast-d c = search needs
 
--- src/lib.rt:135:9
+-- src/lib.rt:137:9
 sub-result : tie.Need-sub-result
 sub-result c = half-fits w32 (c .before .number-at .result) (c .if1 .left) (c .before .number-at .ensures .1)
 
--- src/lib.rt:127:1
+-- src/lib.rt:129:1
 returns : tie.Need-returns
 returns c = signed-is w32 4 (c .before .number-at .result) refl refl ∙ ap (signed 4) (c .before .number-at .ensures .0)
 
--- src/lib.rt:127:1
+-- src/lib.rt:129:1
 returns-2 : tie.Need-returns-2
 returns-2 c = half-is w32 (c .before .number-at .result) (c .if1 .left) (c .before .number-at .ensures .1) ∙ signed-is w32 4 (c .before .number-at .result) refl refl ∙ ap (signed 4) (c .before .number-at .ensures .0)
 

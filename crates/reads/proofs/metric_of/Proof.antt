@@ -4,15 +4,15 @@ use borrow.Author.Needs.{needs}
 use Rattle.reads.proofs.metric_of.Statement.{statement}
 use Rattle.reads.proofs.metric_of.Tie as tie
 
--- src/lib.rt:143:6
+-- src/lib.rt:145:6
 cast-result : tie.Need-cast-result
 cast-result c = search needs
 
--- src/lib.rt:143:5
+-- src/lib.rt:145:5
 sub-result : tie.Need-sub-result
 sub-result c = rw (metric-is (c .args .b) (search needs)) (metric-fits (c .args .b) (search needs))
 
--- src/lib.rt:140:1
+-- src/lib.rt:142:1
 returns : tie.Need-returns
 returns c = rw (metric-is (c .args .b) (search needs)) (toZ-ofZ (metric-fits (c .args .b) (search needs)))
 

@@ -9,26 +9,26 @@ use borrow.Author.Needs.{needs}
 use Rattle.reads.proofs.number_at.Statement.{statement}
 use Rattle.reads.proofs.number_at.Tie as tie
 
--- src/lib.rt:83:8
+-- src/lib.rt:85:8
 lies-in-requires : tie.Need-lies-in-requires
 lies-in-requires c κs = search needs
 
--- src/lib.rt:84:22
+-- src/lib.rt:86:22
 add-digits-at : tie.Need-add-digits-at
 add-digits-at c = omega (arith, leb-true (c .before .before .before .args .start + c .before .before .before .args .offset + c .before .before .before .args .width) (length (c .before .before .before .args .s .now)) (sym (c .before .lies-in .ensures) ∙ c .if1 .taken))
 
--- src/lib.rt:84:9
+-- src/lib.rt:86:9
 digits-at-requires : tie.Need-digits-at-requires
 digits-at-requires c κs =
     (search needs, leb-true (c .before .before .before .args .start + c .before .before .before .args .offset + c .before .before .before .args .width) (length (c .before .before .before .args .s .now)) (sym (c .before .lies-in .ensures) ∙ c .if1 .taken))
 
--- src/lib.rt:78:1
+-- src/lib.rt:80:1
 returns : tie.Need-returns
 unfolding numAt
 returns c =
     (rw (← c .before .before .lies-in .ensures, c .before .if1 .taken) (c .digits-at .ensures .0), c .digits-at .ensures .1)
 
--- src/lib.rt:78:1
+-- src/lib.rt:80:1
 returns-2 : tie.Need-returns-2
 unfolding numAt
 returns-2 c =
