@@ -1,7 +1,7 @@
 /* Draws a text on a page of white pixels, wrapped at its right end, and writes the page as a PBM picture.
  *
- *     cc -std=c99 -I include examples/draw.c target/staticlib/libthalluskin.a -o draw
- *     ./draw FONT.pcf TEXT WIDTH HEIGHT SCALE PICTURE.pbm
+ *     cc -std=c99 -I include examples/draw.c target/staticlib/libthalluskin.a -o target/draw
+ *     target/draw FONT.pcf TEXT WIDTH HEIGHT SCALE PICTURE.pbm
  *
  * Exit status: 0 for a picture, 1 for a font or a text that is refused, 2 for anything else. */
 #include <errno.h>

@@ -97,6 +97,7 @@ typedef struct {
     uint16_t attributes;
 } thk_measures;
 
+/* The accelerator table as its file has it. Of this drawing looks at `maxbounds` alone. */
 typedef struct {
     uint32_t format;
     uint8_t noOverlap;
@@ -173,14 +174,14 @@ typedef struct {
     size_t len;
 } thk_span;
 
-/* The height and width of the font's bounds: of the largest box that a glyph has. */
+/* The height and width of the font's maximum bounds, in pixels. */
 typedef struct {
     size_t height;
     size_t width;
 } thk_extent;
 
 /* A placed glyph: its bitmap is `width` wide and `height` high, and stands `pad_top` below the line's top and
- * `pad_left` right of the pen. */
+ * `pad_left` right of the pen, all in the font's own pixels, before `scale`. */
 typedef struct {
     thk_glyph_index glyph;
     uint16_t width;
@@ -189,13 +190,13 @@ typedef struct {
     uint16_t pad_left;
 } thk_glyph_info;
 
-/* How many rows of a glyph were drawn, and how many the buffer's end cut off. */
+/* How many rows of a glyph's bitmap were drawn, and how many were dropped because the buffer ends. */
 typedef struct {
     uint16_t drawn;
     uint16_t dropped;
 } thk_rows;
 
-/* The height that a text takes, in pixels, and how many rows of all its glyphs were cut off. */
+/* The height that a text takes, in pixels, and how many rows of all its glyphs were dropped. */
 typedef struct {
     size_t height;
     size_t dropped;
@@ -287,7 +288,8 @@ typedef struct {
 
 /* ---- A font. */
 
-/* The record of a font file. Refused 1, 2, 3, 4; entry by entry 5, 6, 7; 8. */
+/* The record of a font file. Refused 1, 2, 3, 4; entry by entry 5, 6 (in a code table 6 for its header, 7, 6 for its
+ * entries); 8. */
 thk_font_answer thk_load(const uint8_t *bytes, size_t bytes_len);
 
 /* The same, of a font of which no code's glyph is ever refused for the font's sake: in such a font a text is refused
@@ -307,42 +309,66 @@ thk_name_answer thk_name(const uint8_t *bytes, size_t bytes_len, thk_record rec,
 /* A glyph's metrics. Refused 6, 10. */
 thk_metrics_answer thk_metrics(const uint8_t *bytes, size_t bytes_len, thk_record rec, thk_glyph_index glyph);
 
-/* The height and width of the bounds. Refused 6, 11. */
+/* The height and width of the font's maximum bounds, as its file states them. A glyph may be wider or reach lower;
+ * thk_text_check says what a text needs. Refused 6, 11. */
 thk_extent_answer thk_dimensions(const uint8_t *bytes, size_t bytes_len, thk_record rec);
 
 /* A character's glyph, placed. Refused 6, 9, 10, 11. */
 thk_info_answer thk_prep_char(const uint8_t *bytes, size_t bytes_len, thk_record rec, thk_char_code code);
 
-/* ---- Drawing. A buffer holds lines of `stride` pixels, and `start` is the pixel at the top left of what is drawn.
- * Each set bit colours a square of `scale` by `scale` pixels. Nothing stops a glyph at its line's right end. From the
- * top of its bitmap on the buffer holds some number of whole lines: rounded down to a multiple of `scale`, that many
- * of its rows are drawn, or all if it has no more; the others are dropped. A pixel to colour can still lie beyond the
- * buffer, at a scale above 1 or past the right end of the last line; then the call is refused (16).
+/* ---- Drawing. A buffer holds lines of `stride` pixels. Each set bit colours a square of `scale` by `scale` pixels;
+ * all others keep their values. Nothing stops a glyph at its line's right end.
+ *
+ * A bitmap's first pixel p is `start` in thk_draw_bitmap. For a placed glyph `start` is the pen at the top of the line,
+ * and the pads are added:
+ *
+ *     p = start + stride * scale * pad_top + scale * pad_left
+ *     m = (buf_len - p) / stride, or 0 where p lies beyond the buffer
+ *     rows drawn = the smaller of height and m / scale * scale
+ *
+ * with divisions that round down; the other rows are dropped. m counts strides from p and not lines of the page: at
+ * scale 1, on a page that ends with a glyph's last line, only a bitmap that begins at the left end keeps that row. A
+ * page with one line more avoids it. A drawn row can still have a pixel to colour beyond the buffer, at a scale above 1
+ * or in a bitmap wider than `stride`; then the call is refused (16).
  *
  * `stride` is 1 to 65,535, `scale` 1 to 64, `start` at most 2,147,483,647, and a given width, height or pad at most
- * 32,767; 15 refuses all else. Lengths of buffers count pixels, and for thk_unpack_glyph bytes. */
+ * 32,767; 15 refuses all else. Lengths of buffers count pixels, and for thk_unpack_glyph bytes. A glyph is without a
+ * bitmap if its number is at or above the bitmap count (12). */
 
 /* Draws a glyph's bitmap at `start`. Refused 6, 15, 12, 13, 14, 16. */
 thk_rows_answer thk_draw_bitmap(const uint8_t *bytes, size_t bytes_len, thk_record rec, thk_glyph_index glyph,
                                 size_t width, size_t height, uint32_t *buf, size_t buf_len, size_t start,
                                 size_t stride, size_t scale, uint32_t colour);
 
-/* Draws a placed glyph; one without a bitmap is nothing drawn and nothing dropped. Refused 6, 15, 13, 14, 16. */
+/* Draws a placed glyph. One without a bitmap is no refusal: nothing is drawn, and both numbers of rows are 0. Refused
+ * 6, 15, 13, 14, 16. */
 thk_rows_answer thk_draw_glyph(const uint8_t *bytes, size_t bytes_len, thk_record rec, thk_glyph_info info,
                                uint32_t *buf, size_t buf_len, size_t start, size_t stride, size_t scale,
                                uint32_t colour);
 
-/* Draws a character, and answers its placed glyph too. Refused 6, 15, 9, 10, 11, 13, 14, 16. */
+/* Draws a character, and answers its placed glyph too. One whose glyph is without a bitmap is no refusal: nothing is
+ * drawn, and both numbers of rows are 0. Refused 6, 15, 9, 10, 11, 13, 14, 16. */
 thk_char_answer thk_draw_char(const uint8_t *bytes, size_t bytes_len, thk_record rec, thk_char_code code, uint32_t *buf,
                               size_t buf_len, size_t start, size_t stride, size_t scale, uint32_t colour);
 
 /* Stores 1 for each set bit of every whole row byte of a placed glyph, columns past its width included, and answers how
- * many rows that were. No row is dropped. Refused 6, 15, 13, 14, 16. */
+ * many rows that were. The buffer holds lines of `stride` bytes; the bit at row r and column c is stored at
+ * start + stride * pad_top + pad_left + r * stride + c, and all other bytes keep their values, those of clear bits too.
+ * No row is dropped. A glyph without a bitmap is no refusal: nothing is stored, and the rows are 0. Refused 6, 15, 13,
+ * 14, 16. */
 thk_unpack_answer thk_unpack_glyph(const uint8_t *bytes, size_t bytes_len, thk_record rec, thk_glyph_info info,
                                    uint8_t *buf, size_t buf_len, size_t start, size_t stride);
 
-/* ---- Texts, UTF-8 of at most 65,535 bytes. A newline, and a glyph that would reach `wrap` pixels from the line's
- * start, begin a new line; a carriage return and a code without a glyph are skipped. */
+/* ---- Texts, UTF-8 of at most 65,535 bytes. The pen begins at x = y = 0. A character is drawn as thk_draw_glyph draws
+ * its glyph, with start + y * stride + x for `start`; then x grows by the glyph's width times `scale`. A newline sets x
+ * to 0 and adds the line height to y, which is `scale` times the height that thk_dimensions answers.
+ *
+ * A glyph for which x plus its width times `scale` is `wrap` or more goes to a new line first, even at a line's
+ * beginning, and by one line at most. So a letter that ends exactly at `wrap` wraps too: on a page 240 pixels wide
+ * `wrap` is 241. Nothing stops a glyph at its line's right end.
+ *
+ * A carriage return and a code without a glyph are skipped. A glyph without a bitmap is no refusal: it draws nothing
+ * and drops nothing, but wraps and moves the pen as any other. The answer's height is y and one line height. */
 
 /* Draws a text. Refused 6, 15, 19, 11 of the bounds; then the first character with a refusal decides: 10, 11, 13, 14,
  * 16. */
@@ -350,11 +376,12 @@ thk_text_answer thk_draw_string(const uint8_t *bytes, size_t bytes_len, thk_reco
                                 size_t text_len, uint32_t *buf, size_t buf_len, size_t start, uint64_t wrap,
                                 size_t stride, size_t scale, uint32_t colour);
 
-/* What thk_draw_string answers with a buffer of `len` pixels: a dry run. */
+/* What thk_draw_string answers with a buffer of `len` pixels: a dry run. Refused as that. */
 thk_text_answer thk_text_check(const uint8_t *bytes, size_t bytes_len, thk_record rec, const uint8_t *text,
                                size_t text_len, size_t len, size_t start, uint64_t wrap, size_t stride, size_t scale);
 
-/* The character at byte `i`, and where the next one starts. Refused 19, with `i` as the place. */
+/* The character at byte `i`, and where the next one starts. At or past the text's end `i` is the end. The text may have
+ * any length here. Refused 19, with `i` as the place. */
 thk_step_answer thk_utf8_step(const uint8_t *text, size_t text_len, size_t i);
 
 #ifdef __cplusplus

@@ -3,10 +3,21 @@ use std::env;
 use std::path::PathBuf;
 use std::process::exit;
 
+fn refuse(why: &str) -> ! {
+    eprintln!("thalluskin: {}", why);
+    exit(1);
+}
+
 fn main() {
     println!("cargo:rerun-if-env-changed=THALLUSKIN_LIB");
-    let folder = match env::var_os("THALLUSKIN_LIB") {
-        Some(folder) => PathBuf::from(folder),
+    let target = |of: &str| env::var(format!("CARGO_CFG_TARGET_{}", of)).unwrap_or_default();
+    if (target("ARCH").as_str(), target("POINTER_WIDTH").as_str(), target("OS").as_str()) != ("x86_64", "64", "linux") {
+        refuse("libthalluskin.a is for 64-bit x86-64 Linux, and this build is for another target");
+    }
+    let folder = match env::var_os("THALLUSKIN_LIB").map(PathBuf::from) {
+        Some(folder) if folder.is_absolute() => folder,
+        // this script and the linker run in other folders than the person who set it
+        Some(folder) => refuse(&format!("THALLUSKIN_LIB is \"{}\", and has to be an absolute path", folder.display())),
         None => {
             let here = env::var_os("CARGO_MANIFEST_DIR").map(PathBuf::from).unwrap_or_default();
             here.join("../../target/staticlib")
@@ -15,8 +26,7 @@ fn main() {
     let archive = folder.join("libthalluskin.a");
     println!("cargo:rerun-if-changed={}", archive.display());
     if !archive.is_file() {
-        eprintln!("{} is not there; `rt staticlib thalluskin` makes it", archive.display());
-        exit(1);
+        refuse(&format!("{} is not there; `rt staticlib thalluskin` makes it", archive.display()));
     }
     println!("cargo:rustc-link-search=native={}", folder.display());
     println!("cargo:rustc-link-lib=static=thalluskin");

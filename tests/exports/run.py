@@ -1,7 +1,7 @@
 #!/usr/bin/env python3
 """Tries libthalluskin.a from outside Rattle: its symbols; the header and the Rust crate against the Rattle sources;
 calls of all its functions from C against the model of document 01; the program examples/draw.c; the Rust crate's own
-tests; the README's C and Rust.
+tests, and clippy's where it is installed; the README's C, Rust and commands.
 
 The archive is for x86-64. On another machine the C programs are cross-compiled and emulated, where the tools are to be
 had, and the Rust crate is not tried."""
@@ -127,6 +127,11 @@ def symbols(at):
 # ---- the header and the Rust crate, against the Rattle sources
 
 
+def c_refusals():
+    """the names of the header's refusals, without THK_, and their numbers"""
+    return [(name, int(n)) for name, n in re.findall(r"\bTHK_(\w+) = (\d+)", layouts.read("include", "thalluskin.h"))]
+
+
 def header(at, folder):
     source = os.path.join(folder, "layouts.c")
     with open(source, "w") as f:
@@ -143,8 +148,8 @@ def header(at, folder):
         r"^(thk_\w+) (thk_\w+)\((.*?)\);", text, re.M | re.S)}
     if prototypes != layouts.c_prototypes():
         fail("the header's prototypes are not the sources': %s" % sorted(prototypes ^ layouts.c_prototypes()))
-    numbers = [int(n) for n in re.findall(r"\bTHK_\w+ = (\d+)", text)]
-    if numbers != list(range(20)):
+    numbers = c_refusals()
+    if [n for _, n in numbers] != list(range(20)):
         fail("the header's refusals are %s" % numbers)
     if shutil.which(at.prefix + "g++"):
         empty = os.path.join(folder, "empty.cc")
@@ -155,7 +160,30 @@ def header(at, folder):
     print("exports: %d structs and %d prototypes of the header are the sources'" % (len(structs), len(prototypes)))
 
 
-def rust():
+def build_script(crate, folder):
+    """what the crate's build script says to a target or a folder that it cannot link"""
+    script = os.path.join(folder, "build")
+    must("the build script", "rustc", "--edition", "2021", os.path.join(crate, "build.rs"), "-o", script)
+    right = {"PATH": os.environ["PATH"], "CARGO_MANIFEST_DIR": crate, "CARGO_CFG_TARGET_ARCH": "x86_64",
+             "CARGO_CFG_TARGET_POINTER_WIDTH": "64", "CARGO_CFG_TARGET_OS": "linux"}
+    tries = [
+        ({}, None), ({"THALLUSKIN_LIB": os.path.dirname(ARCHIVE)}, None),
+        ({"THALLUSKIN_LIB": os.path.join("target", "staticlib")}, "absolute path"),
+        ({"THALLUSKIN_LIB": ""}, "absolute path"), ({"THALLUSKIN_LIB": folder}, "is not there"),
+        ({"CARGO_CFG_TARGET_ARCH": "aarch64"}, "another target"),
+        ({"CARGO_CFG_TARGET_OS": "windows"}, "another target"),
+        ({"CARGO_CFG_TARGET_POINTER_WIDTH": "32"}, "another target"),
+    ]
+    for given, words in tries:
+        got = run(script, env={**right, **given}, cwd=ROOT)
+        said = got.stderr.decode(errors="replace")
+        links = "cargo:rustc-link-lib=static=thalluskin" in got.stdout.decode(errors="replace").splitlines()
+        if (got.returncode, links) != (int(words is not None), words is None) or (words or "") not in said:
+            fail("the build script, %s: status %d, %s" % (given, got.returncode, said))
+    return len(tries)
+
+
+def rust(folder):
     crate = os.path.join(ROOT, "bindings", "rust")
     target = os.path.join(ROOT, "target", "rust")
     words = {**os.environ, "CARGO_TARGET_DIR": target, "THALLUSKIN_LIB": os.path.dirname(ARCHIVE)}
@@ -176,7 +204,17 @@ def rust():
         r"^    fn (thk_\w+)\((.*?)\) -> (\w+);", layouts.read("bindings", "rust", "src", "calls.rs"), re.M | re.S)}
     if prototypes != layouts.rust_prototypes():
         fail("the Rust crate's prototypes are not the sources': %s" % sorted(prototypes ^ layouts.rust_prototypes()))
-    print("exports: Rust: %d unit tests, %d doc tests; its structs and declarations are the sources'" % tuple(counts))
+    constants = [(name, int(n)) for name, n in re.findall(
+        r"^    pub const (\w+): u32 = (\d+);", layouts.read("bindings", "rust", "src", "refusal.rs"), re.M)]
+    if constants != c_refusals()[1:]:
+        fail("the Rust crate's refusals are not the header's: %s" % sorted(set(constants) ^ set(c_refusals()[1:])))
+    linted = "clippy is not installed"
+    if run("cargo", "clippy", "--version", env=words).returncode == 0:
+        must("cargo clippy", "cargo", "clippy", "--offline", "--all-targets", cwd=crate, env=words)
+        linted = "clippy passes"
+    scripts = build_script(crate, folder)
+    print("exports: Rust: %d unit tests, %d doc tests, %d of the build script, %s; its structs, declarations and "
+          "refusals are the sources'" % (*counts, scripts, linted))
 
 
 # ---- calls
@@ -324,7 +362,7 @@ def example(at, folder):
 
 
 def readme(at, folder):
-    """its blocks of C and of Rust compile"""
+    """its blocks of C and of Rust compile, and its commands that make and run the example succeed"""
     blocks = re.findall(r"(?:^    .*\n|^\n(?=    ))+", layouts.read("README.md"), re.M)
     tried = collections.Counter()
     for k, block in enumerate(blocks):
@@ -344,7 +382,15 @@ def readme(at, folder):
                 must("Rust of the README", "rustc", "--edition", "2021", "--crate-type", "lib", "--extern",
                      "thalluskin=" + built, source, "--out-dir", folder)
             tried[name.split(".")[1]] += 1
-    print("exports: README: %d blocks of C and %d of Rust compile" % (tried["c"], tried["rs"]))
+        if re.search("^    cc ", block, re.M):
+            for line in block.split("\n"):
+                if line.strip() and not line.startswith("    rt ") and not at.prefix:  # the archive was made before
+                    must("of the README:" + line, "sh", "-c", line, cwd=ROOT)
+                    tried["sh"] += 1
+    if not (tried["c"] and (at.prefix or tried["rs"] and tried["sh"])):
+        fail("the README lacks C, Rust or the commands for the example")
+    print("exports: README: %d blocks of C and %d of Rust compile, %d commands succeed" % (
+        tried["c"], tried["rs"], tried["sh"]))
 
 
 def main():
@@ -358,7 +404,7 @@ def main():
         if at.prefix:
             print("exports: the Rust crate was not tried, because this machine is not x86-64")
         else:
-            rust()
+            rust(folder)
         readme(at, folder)
 
 

@@ -6,14 +6,53 @@ use crate::Refusal;
 ///
 /// Every call answers for any bytes and any record. Where it refuses, buffers are as they were.
 ///
-/// A buffer of pixels holds lines of `stride` pixels, and `start` is the pixel at the top left of what is drawn. Each
-/// set bit colours a square of `scale` by `scale` pixels. Nothing stops a glyph at its line's right end. From the top
-/// of its bitmap on the buffer holds some number of whole lines: rounded down to a multiple of `scale`, that many of
-/// its rows are drawn, or all if it has no more; the others are dropped. A pixel to colour can still lie beyond the
-/// buffer, at a scale above 1 or past the right end of the last line; then the call is refused (16).
+/// # Drawing
+///
+/// A buffer of pixels holds lines of `stride` pixels. Each set bit colours a square of `scale` by `scale` pixels; all
+/// others keep their values. Nothing stops a glyph at its line's right end.
+///
+/// A bitmap's first pixel p is `start` in [`Font::draw_bitmap`]. For a placed glyph `start` is the pen at the top of
+/// the line, and the pads are added:
+///
+/// ```text
+/// p = start + stride * scale * pad_top + scale * pad_left
+/// m = (buf.len() - p) / stride, or 0 where p lies beyond the buffer
+/// rows drawn = the smaller of height and m / scale * scale
+/// ```
+///
+/// with divisions that round down; the other rows are dropped. m counts strides from p and not lines of the page: at
+/// scale 1, on a page that ends with a glyph's last line, only a bitmap that begins at the left end keeps that row. A
+/// page with one line more avoids it. A drawn row can still have a pixel to colour beyond the buffer, at a scale above
+/// 1 or in a bitmap wider than `stride`; then the call is refused (16).
 ///
 /// `stride` is 1 to 65,535, `scale` 1 to 64, `start` at most 2,147,483,647, and a given width, height or pad at most
-/// 32,767; 15 refuses all else.
+/// 32,767; 15 refuses all else. A glyph is without a bitmap if its number is at or above the bitmap count (12).
+///
+/// # Texts
+///
+/// A text is UTF-8 of at most 65,535 bytes. The pen begins at x = y = 0. A character is drawn as [`Font::draw_glyph`]
+/// draws its glyph, with `start + y * stride + x` for `start`; then x grows by the glyph's width times `scale`. A
+/// newline sets x to 0 and adds the line height to y, which is `scale` times the height that [`Font::dimensions`]
+/// answers.
+///
+/// A glyph for which x plus its width times `scale` is `wrap` or more goes to a new line first, even at a line's
+/// beginning, and by one line at most. So a letter that ends exactly at `wrap` wraps too: on a page 240 pixels wide
+/// `wrap` is 241. Nothing stops a glyph at its line's right end. With `None` lines end at newlines alone, and so they
+/// do with `u64::MAX`, which no line reaches.
+///
+/// A carriage return and a code without a glyph are skipped. A glyph without a bitmap is no refusal: it draws nothing
+/// and drops nothing, but wraps and moves the pen as any other. The answer's height is y and one line height.
+///
+/// ```
+/// # use thalluskin::Font;
+/// # let file = include_bytes!("../../../crates/inspect/data/f.pcf");
+/// let font = Font::vet(file)?; // its glyphs are 3 by 3
+/// assert_eq!(font.text_check(b"01", 6 * 3, 0, None, 6, 1)?.dropped, 1);
+/// assert_eq!(font.text_check(b"01", 6 * 4, 0, None, 6, 1)?.dropped, 0);
+/// assert_eq!(font.text_check(b"01", 6 * 7, 0, Some(6), 6, 1)?.height, 6);
+/// assert_eq!(font.text_check(b"01", 6 * 7, 0, Some(7), 6, 1)?.height, 3);
+/// # Ok::<(), thalluskin::Refusal>(())
+/// ```
 #[derive(Clone, Copy, Debug)]
 pub struct Font<'a> {
     bytes: &'a [u8],
@@ -53,7 +92,8 @@ fn wrap_number(wrap: Option<u64>) -> u64 {
 }
 
 impl<'a> Font<'a> {
-    /// A font file, loaded. Refused 1, 2, 3, 4; entry by entry 5, 6, 7; 8.
+    /// A font file, loaded. Refused 1, 2, 3, 4; entry by entry 5, 6 (in a code table 6 for its header, 7, 6 for its
+    /// entries); 8.
     ///
     /// ```
     /// # let file = include_bytes!("../../../crates/inspect/data/f.pcf");
@@ -69,13 +109,14 @@ impl<'a> Font<'a> {
     /// The same, of a font of which no code's glyph is ever refused for the font's sake: in such a font a text is
     /// refused only for itself (19), for another argument (15), or because a pixel to colour lies beyond the buffer
     /// (16).
-    /// Refused as `load`; 13; 11 of the bounds; 18 of a property; code by code 10, 11, 12, 14, 17, 18.
+    /// Refused as [`Font::load`]; 13; 11 of the bounds; 18 of a property; code by code 10, 11, 12, 14, 17, 18.
     ///
     /// ```
+    /// # use thalluskin::{Font, Refusal};
     /// # let file = include_bytes!("../../../crates/inspect/data/f.pcf");
-    /// assert!(thalluskin::Font::vet(file).is_ok());
-    /// let cut = thalluskin::Font::vet(&file[..file.len() - 1]).unwrap_err();
-    /// assert_eq!((cut.number, cut.place), (6, 5));
+    /// assert!(Font::vet(file).is_ok());
+    /// let cut = Font::vet(&file[..file.len() - 1]).unwrap_err();
+    /// assert_eq!(cut, Refusal { number: Refusal::BAD_TABLE, place: 5 });
     /// ```
     pub fn vet(bytes: &'a [u8]) -> Result<Font<'a>, Refusal> {
         let a = calls::vet(bytes);
@@ -86,11 +127,11 @@ impl<'a> Font<'a> {
     /// does not fit the bytes.
     ///
     /// ```
-    /// # use thalluskin::{CharCode, Font};
+    /// # use thalluskin::{CharCode, Font, Refusal};
     /// # let file = include_bytes!("../../../crates/inspect/data/f.pcf");
     /// let kept = *Font::vet(file)?.record();
     /// assert!(Font::with_record(file, kept).glyph(CharCode(0x30)).is_ok());
-    /// assert_eq!(Font::with_record(b"", kept).glyph(CharCode(0x30)).unwrap_err().number, 6);
+    /// assert_eq!(Font::with_record(b"", kept).glyph(CharCode(0x30)).unwrap_err().number, Refusal::BAD_TABLE);
     /// # Ok::<(), thalluskin::Refusal>(())
     /// ```
     pub fn with_record(bytes: &'a [u8], record: Record) -> Font<'a> {
@@ -130,13 +171,13 @@ impl<'a> Font<'a> {
     /// The property with this number, from 0. Refused 6, 17, 18.
     ///
     /// ```
-    /// # use thalluskin::{Font, Value};
+    /// # use thalluskin::{Font, Refusal, Value};
     /// # let file = include_bytes!("../../../crates/inspect/data/big_two_byte.pcf");
     /// let font = Font::load(file)?;
     /// let family = font.property(0)?;
     /// assert_eq!((family.name, family.value), (&b"FAMILY"[..], Value::String(b"Meter")));
     /// assert_eq!(font.property(1)?.value, Value::Number(305419896));
-    /// assert_eq!(font.property(3).unwrap_err().number, 17);
+    /// assert_eq!(font.property(3).unwrap_err().number, Refusal::NO_NAME);
     /// # Ok::<(), thalluskin::Refusal>(())
     /// ```
     pub fn property(&self, number: u32) -> Result<Property<'a>, Refusal> {
@@ -149,11 +190,11 @@ impl<'a> Font<'a> {
     /// The glyph of a code. Refused 6, 9.
     ///
     /// ```
-    /// # use thalluskin::{CharCode, Font, GlyphIndex};
+    /// # use thalluskin::{CharCode, Font, GlyphIndex, Refusal};
     /// # let file = include_bytes!("../../../crates/inspect/data/f.pcf");
     /// let font = Font::load(file)?;
     /// assert_eq!(font.glyph('1'.into())?, GlyphIndex(1));
-    /// assert_eq!(font.glyph(CharCode(0x32)).unwrap_err().number, 9);
+    /// assert_eq!(font.glyph(CharCode(0x32)).unwrap_err().number, Refusal::NO_GLYPH);
     /// # Ok::<(), thalluskin::Refusal>(())
     /// ```
     pub fn glyph(&self, code: CharCode) -> Result<GlyphIndex, Refusal> {
@@ -164,11 +205,11 @@ impl<'a> Font<'a> {
     /// A glyph's name, a part of the font's own bytes. Refused 6, 17, 18.
     ///
     /// ```
-    /// # use thalluskin::{Font, GlyphIndex};
+    /// # use thalluskin::{Font, GlyphIndex, Refusal};
     /// # let file = include_bytes!("../../../crates/inspect/data/f.pcf");
     /// let font = Font::load(file)?;
     /// assert_eq!(font.name(GlyphIndex(0))?, b"nil");
-    /// assert_eq!(font.name(GlyphIndex(2)).unwrap_err().number, 17);
+    /// assert_eq!(font.name(GlyphIndex(2)).unwrap_err().number, Refusal::NO_NAME);
     /// # Ok::<(), thalluskin::Refusal>(())
     /// ```
     pub fn name(&self, glyph: GlyphIndex) -> Result<&'a [u8], Refusal> {
@@ -191,7 +232,8 @@ impl<'a> Font<'a> {
         answer(a.refusal, a.place, a.metrics)
     }
 
-    /// The height and width of the bounds. Refused 6, 11.
+    /// The height and width of the font's maximum bounds, as its file states them. A glyph may be wider or reach lower;
+    /// [`Font::text_check`] says what a text needs. Refused 6, 11.
     ///
     /// ```
     /// # use thalluskin::{Extent, Font};
@@ -245,7 +287,8 @@ impl<'a> Font<'a> {
         answer(a.refusal, a.place, a.rows)
     }
 
-    /// Draws a placed glyph; one without a bitmap is nothing drawn and nothing dropped. Refused 6, 15, 13, 14, 16.
+    /// Draws a placed glyph. One without a bitmap is no refusal: nothing is drawn, and both numbers of rows are 0.
+    /// Refused 6, 15, 13, 14, 16.
     ///
     /// ```
     /// # use thalluskin::{Font, Rows};
@@ -270,14 +313,15 @@ impl<'a> Font<'a> {
         answer(a.refusal, a.place, a.rows)
     }
 
-    /// Draws a character, and answers its placed glyph too. Refused 6, 15, 9, 10, 11, 13, 14, 16.
+    /// Draws a character, and answers its placed glyph too. One whose glyph is without a bitmap is no refusal: nothing
+    /// is drawn, and both numbers of rows are 0. Refused 6, 15, 9, 10, 11, 13, 14, 16.
     ///
     /// ```
-    /// # use thalluskin::Font;
+    /// # use thalluskin::{Font, Refusal};
     /// # let file = include_bytes!("../../../crates/inspect/data/f.pcf");
     /// let mut page = [0; 24];
     /// let drawn = Font::load(file)?.draw_char('0'.into(), &mut page, 0, 6, 2, 7);
-    /// assert_eq!(drawn.unwrap_err().number, 16);
+    /// assert_eq!(drawn.unwrap_err().number, Refusal::BUFFER_SHORT);
     /// assert_eq!(page, [0; 24]);
     /// # Ok::<(), thalluskin::Refusal>(())
     /// ```
@@ -295,7 +339,10 @@ impl<'a> Font<'a> {
     }
 
     /// Stores 1 for each set bit of every whole row byte of a placed glyph, columns past its width included, and
-    /// answers how many rows that were. No row is dropped. Refused 6, 15, 13, 14, 16.
+    /// answers how many rows that were. The buffer holds lines of `stride` bytes; the bit at row r and column c is
+    /// stored at `start + stride * pad_top + pad_left + r * stride + c`, and all other bytes keep their values, those
+    /// of clear bits too. No row is dropped. A glyph without a bitmap is no refusal: nothing is stored, and the rows
+    /// are 0. Refused 6, 15, 13, 14, 16.
     ///
     /// ```
     /// # use thalluskin::Font;
@@ -311,10 +358,8 @@ impl<'a> Font<'a> {
         answer(a.refusal, a.place, a.rows)
     }
 
-    /// Draws a text, UTF-8 of at most 65,535 bytes. A newline, and a glyph that would reach `wrap` pixels from the
-    /// line's start, begin a new line; a carriage return and a code without a glyph are skipped. No line reaches
-    /// `u64::MAX` pixels.
-    /// Refused 6, 15, 19, 11 of the bounds; then the first character with a refusal decides: 10, 11, 13, 14, 16.
+    /// Draws a text, UTF-8 of at most 65,535 bytes, as [`Font`] says of texts. Refused 6, 15, 19, 11 of the bounds;
+    /// then the first character with a refusal decides: 10, 11, 13, 14, 16.
     ///
     /// ```
     /// # use thalluskin::{Font, TextRows};
@@ -341,14 +386,15 @@ impl<'a> Font<'a> {
         answer(a.refusal, a.place, a.rows)
     }
 
-    /// What `draw_string` answers with a buffer of `len` pixels: a dry run.
+    /// What [`Font::draw_string`] answers with a buffer of `len` pixels: a dry run. Refused as that.
     ///
     /// ```
-    /// # use thalluskin::{Font, TextRows};
+    /// # use thalluskin::{Font, Refusal, TextRows};
     /// # let file = include_bytes!("../../../crates/inspect/data/f.pcf");
     /// let font = Font::vet(file)?;
     /// assert_eq!(font.text_check(b"01", 36, 0, Some(6), 6, 1)?, TextRows { height: 6, dropped: 0 });
-    /// assert_eq!(font.text_check(b"0\xff", 36, 0, Some(6), 6, 1).unwrap_err().place, 1);
+    /// let no_text = font.text_check(b"0\xff", 36, 0, Some(6), 6, 1);
+    /// assert_eq!(no_text, Err(Refusal { number: Refusal::BAD_TEXT, place: 1 }));
     /// # Ok::<(), thalluskin::Refusal>(())
     /// ```
     pub fn text_check(
@@ -365,15 +411,15 @@ impl<'a> Font<'a> {
     }
 }
 
-/// The character at byte `i` of a text and where the next one starts, or `None` at the end. Refused 19, with `i` as
-/// the place.
+/// The character at byte `i` of a text and where the next one starts, or `None` where `i` is at or past the text's end.
+/// The text may have any length here. Refused 19, with `i` as the place.
 ///
 /// ```
-/// # use thalluskin::{utf8_step, CharCode};
+/// # use thalluskin::{utf8_step, CharCode, Refusal};
 /// let text = "é0".as_bytes();
 /// assert_eq!(utf8_step(text, 0)?, Some((CharCode(0xe9), 2)));
 /// assert_eq!(utf8_step(text, 3)?, None);
-/// assert_eq!(utf8_step(text, 1).unwrap_err().number, 19);
+/// assert_eq!(utf8_step(text, 1), Err(Refusal { number: Refusal::BAD_TEXT, place: 1 }));
 /// # Ok::<(), thalluskin::Refusal>(())
 /// ```
 pub fn utf8_step(text: &[u8], i: usize) -> Result<Option<(CharCode, usize)>, Refusal> {

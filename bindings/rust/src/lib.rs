@@ -14,6 +14,9 @@
 #![no_std]
 #![deny(missing_docs)]
 #![deny(unsafe_code)]
+// nothing here may panic or lose a digit
+#![cfg_attr(not(test), deny(clippy::indexing_slicing, clippy::as_conversions, clippy::arithmetic_side_effects))]
+#![cfg_attr(not(test), deny(clippy::unwrap_used, clippy::expect_used, clippy::panic))]
 
 #[allow(unsafe_code)]
 #[allow(clippy::too_many_arguments)]

@@ -1,52 +1,98 @@
 use core::fmt;
 
-/// Why a call has no result: the refusal's number, 1 to 19, and where. The place is the directory entry for 5, 6 and
-/// 7 in loading; in vetting the property or the code; in a text the byte where the refusing character starts; for 19
-/// the first byte at which no character starts; else 0.
+/// Why a call has no result: the refusal's number, and where. The place is the directory entry for 5, 6 and 7 in
+/// loading; in vetting the property or the code; in a text the byte where the refusing character starts; for 19 the
+/// first byte at which no character starts, or 0 where the text is too long; else 0.
 ///
 /// ```
-/// let short = thalluskin::Font::load(b"pcf").unwrap_err();
-/// assert_eq!((short.number, short.place), (1, 0));
+/// # use thalluskin::{Font, Refusal};
+/// let short = Font::load(b"pcf").unwrap_err();
+/// assert_eq!(short, Refusal { number: Refusal::FILE_SHORT, place: 0 });
 /// assert_eq!(short.to_string(), "refused 1 at 0: file under 8 bytes");
 /// ```
 #[derive(Clone, Copy, Debug, PartialEq, Eq)]
 pub struct Refusal {
-    /// Which one it is; or 0 for an answer that points outside the font's bytes, which the library is proved not to
-    /// give.
+    /// Which one it is, 1 to 19: one of the constants below. It would be 0 only if an answer pointed outside the
+    /// font's bytes, which the proofs exclude.
     pub number: u32,
     /// Where.
     pub place: usize,
+}
+
+/// The numbers, in the order of the rules.
+impl Refusal {
+    /// File under 8 bytes.
+    pub const FILE_SHORT: u32 = 1;
+    /// First four bytes not 01 66 63 70.
+    pub const NOT_PCF: u32 = 2;
+    /// Over 64 directory entries.
+    pub const MANY_ENTRIES: u32 = 3;
+    /// Directory runs past the file.
+    pub const BAD_DIRECTORY: u32 = 4;
+    /// An entry's offset exceeds the file length (unknown types too).
+    pub const BAD_OFFSET: u32 = 5;
+    /// A known table's contents run past its bytes; or, in calls, a record with a region outside the bytes given, a
+    /// code minimum above its maximum, a code region without room for all its entries, or a row pad other than 1, 2,
+    /// 4, 8.
+    pub const BAD_TABLE: u32 = 6;
+    /// Code table with a minimum above its maximum.
+    pub const CODE_BOUNDS: u32 = 7;
+    /// A table is missing.
+    pub const NO_TABLE: u32 = 8;
+    /// No glyph for this code.
+    pub const NO_GLYPH: u32 = 9;
+    /// Glyph at or above the metrics count.
+    pub const NO_METRICS: u32 = 10;
+    /// Metrics out of range.
+    pub const BAD_METRICS: u32 = 11;
+    /// Glyph at or above the bitmap count.
+    pub const NO_BITMAP: u32 = 12;
+    /// Scan unit bits not 0, or bit 8 of the format clear.
+    pub const BIT_ORDER: u32 = 13;
+    /// A needed bitmap byte lies beyond the bitmap data.
+    pub const BITMAP_SHORT: u32 = 14;
+    /// An argument other than the text outside its limits.
+    pub const BAD_ARGUMENT: u32 = 15;
+    /// A pixel to colour lies beyond the buffer.
+    pub const BUFFER_SHORT: u32 = 16;
+    /// Glyph at or above the names count, or property number too high.
+    pub const NO_NAME: u32 = 17;
+    /// String offset beyond the string data, or no zero byte at or after it.
+    pub const BAD_STRING: u32 = 18;
+    /// Text too long or not UTF-8.
+    pub const BAD_TEXT: u32 = 19;
 }
 
 impl Refusal {
     /// What the number means.
     ///
     /// ```
-    /// let none = thalluskin::Refusal { number: 9, place: 0 };
+    /// # use thalluskin::Refusal;
+    /// let none = Refusal { number: Refusal::NO_GLYPH, place: 0 };
     /// assert_eq!(none.reason(), "no glyph for this code");
     /// ```
     pub fn reason(&self) -> &'static str {
         match self.number {
             0 => "the library's answer points outside the font's bytes",
-            1 => "file under 8 bytes",
-            2 => "first four bytes not 01 66 63 70",
-            3 => "over 64 directory entries",
-            4 => "directory runs past the file",
-            5 => "an entry's offset exceeds the file length",
-            6 => "a table's contents run past its bytes, or the record does not fit the bytes",
-            7 => "code table with a minimum above its maximum",
-            8 => "a table is missing",
-            9 => "no glyph for this code",
-            10 => "glyph at or above the metrics count",
-            11 => "metrics out of range",
-            12 => "glyph at or above the bitmap count",
-            13 => "scan unit bits not 0, or bit 8 of the format clear",
-            14 => "a needed bitmap byte lies beyond the bitmap data",
-            15 => "an argument other than the text outside its limits",
-            16 => "a pixel to colour lies beyond the buffer",
-            17 => "glyph at or above the names count, or property number too high",
-            18 => "string offset beyond the string data, or no zero byte at or after it",
-            19 => "text too long or not UTF-8",
+            Refusal::FILE_SHORT => "file under 8 bytes",
+            Refusal::NOT_PCF => "first four bytes not 01 66 63 70",
+            Refusal::MANY_ENTRIES => "over 64 directory entries",
+            Refusal::BAD_DIRECTORY => "directory runs past the file",
+            Refusal::BAD_OFFSET => "an entry's offset exceeds the file length",
+            Refusal::BAD_TABLE => "a table's contents run past its bytes, or the record does not fit the bytes",
+            Refusal::CODE_BOUNDS => "code table with a minimum above its maximum",
+            Refusal::NO_TABLE => "a table is missing",
+            Refusal::NO_GLYPH => "no glyph for this code",
+            Refusal::NO_METRICS => "glyph at or above the metrics count",
+            Refusal::BAD_METRICS => "metrics out of range",
+            Refusal::NO_BITMAP => "glyph at or above the bitmap count",
+            Refusal::BIT_ORDER => "scan unit bits not 0, or bit 8 of the format clear",
+            Refusal::BITMAP_SHORT => "a needed bitmap byte lies beyond the bitmap data",
+            Refusal::BAD_ARGUMENT => "an argument other than the text outside its limits",
+            Refusal::BUFFER_SHORT => "a pixel to colour lies beyond the buffer",
+            Refusal::NO_NAME => "glyph at or above the names count, or property number too high",
+            Refusal::BAD_STRING => "string offset beyond the string data, or no zero byte at or after it",
+            Refusal::BAD_TEXT => "text too long or not UTF-8",
             _ => "an unknown reason",
         }
     }

@@ -22,167 +22,220 @@ pub struct GlyphIndex(pub u16);
 #[repr(C)]
 #[cfg_attr(test, derive(Default))]
 #[derive(Clone, Copy, Debug, PartialEq, Eq)]
-#[allow(missing_docs)]
 pub struct Metrics {
+    /// The left bearing: where the bitmap begins, counted from the pen.
     pub left: i16,
+    /// The right bearing, which drawing does not use.
     pub right: i16,
+    /// The character's width, which is the bitmap's and the pen's advance.
     pub width: i16,
+    /// Rows above the baseline.
     pub ascent: i16,
+    /// Rows below the baseline.
     pub descent: i16,
+    /// The attributes, which drawing does not use; 0 in compressed metrics.
     pub attributes: u16,
 }
 
-/// Of the property table: `count` records of 9 bytes from `records` on; string data of `size` bytes from `strings` on.
+/// Of the property table.
 #[repr(C)]
 #[cfg_attr(test, derive(Default))]
 #[derive(Clone, Copy, Debug, PartialEq, Eq)]
-#[allow(missing_docs)]
 pub struct PropertiesData {
+    /// Whether numbers have the most significant byte first.
     pub big: bool,
+    /// How many properties there are.
     pub count: u32,
+    /// Where their records of 9 bytes begin.
     pub records: usize,
+    /// Where the string data begin.
     pub strings: usize,
+    /// How many bytes of string data there are.
     pub size: usize,
 }
 
-/// The accelerator table, whole.
+/// The accelerator table as its file has it. Of this drawing looks at `maxbounds` alone.
 #[repr(C)]
 #[cfg_attr(test, derive(Default))]
 #[derive(Clone, Copy, Debug, PartialEq, Eq)]
-#[allow(missing_docs)]
 pub struct Accelerators {
+    /// The table's format word.
     pub format: u32,
+    /// Not 0 in a font of which no glyph reaches over the next one.
     pub no_overlap: u8,
+    /// Not 0 in a font of which all glyphs have the same metrics.
     pub constant_metrics: u8,
+    /// Not 0 in a font of which every glyph fills a cell of one size.
     pub terminal_font: u8,
+    /// Not 0 in a font of which all glyphs are equally wide.
     pub constant_width: u8,
+    /// Not 0 in a font of which no ink lies outside a glyph's width and the font's ascent and descent.
     pub ink_inside: u8,
+    /// Not 0 in a font that has ink metrics of its own, which are not read.
     pub ink_metrics: u8,
+    /// 0 for left to right, 1 for right to left. Texts are drawn left to right either way.
     pub draw_direction: u8,
+    /// A byte without a meaning.
     pub padding: u8,
+    /// Rows above the baseline, for the font as a whole.
     pub font_ascent: i32,
+    /// Rows below the baseline, for the font as a whole.
     pub font_descent: i32,
+    /// By how much a glyph reaches past its width at most.
     pub max_overlap: i32,
+    /// The minimum bounds: of each metric the least of all glyphs.
     pub minbounds: Metrics,
+    /// The maximum bounds: of each metric the greatest of all glyphs. Placing and texts go by what the file states
+    /// here, whatever its glyphs are.
     pub maxbounds: Metrics,
 }
 
-/// Of the metrics table: `count` records of 5 bytes (compressed) or 12 from `records` on.
+/// Of the metrics table.
 #[repr(C)]
 #[cfg_attr(test, derive(Default))]
 #[derive(Clone, Copy, Debug, PartialEq, Eq)]
-#[allow(missing_docs)]
 pub struct MetricsData {
+    /// Whether numbers have the most significant byte first.
     pub big: bool,
+    /// Whether a record has 5 bytes, and not 12.
     pub compressed: bool,
+    /// How many glyphs have metrics.
     pub count: u32,
+    /// Where the records begin.
     pub records: usize,
 }
 
-/// Of the bitmap table: `count` offsets from `offsets` on, into bitmap data of `size` bytes from `bits` on. A row is
-/// padded to a multiple of `pad` bytes. `unit` is the format's scan unit code, `top` whether a byte's top bit is its
-/// leftmost.
+/// Of the bitmap table.
 #[repr(C)]
 #[cfg_attr(test, derive(Default))]
 #[derive(Clone, Copy, Debug, PartialEq, Eq)]
-#[allow(missing_docs)]
 pub struct BitmapData {
+    /// Whether numbers have the most significant byte first.
     pub big: bool,
+    /// How many glyphs have a bitmap.
     pub count: u32,
+    /// Where their offsets into the bitmap data begin.
     pub offsets: usize,
+    /// Where the bitmap data begin.
     pub bits: usize,
+    /// How many bytes of bitmap data there are.
     pub size: usize,
+    /// A row is padded to a multiple of this many bytes: 1, 2, 4 or 8.
     pub pad: u8,
+    /// The format's scan unit code; any but 0 is refused (13) in drawing.
     pub unit: u8,
+    /// Whether a byte's top bit is its leftmost; if not, drawing is refused (13).
     pub top: bool,
 }
 
-/// Of the code table: the bounds of a code's second and first byte, the default code, and the entries: `size` bytes
-/// from `entries` on.
+/// Of the code table. A code's first byte is its upper one.
 #[repr(C)]
 #[cfg_attr(test, derive(Default))]
 #[derive(Clone, Copy, Debug, PartialEq, Eq)]
-#[allow(missing_docs)]
 pub struct EncodingData {
+    /// Whether numbers have the most significant byte first.
     pub big: bool,
+    /// The least second byte; where both bounds of the first are 0, the least code.
     pub low2: u16,
+    /// The greatest second byte; where both bounds of the first are 0, the greatest code.
     pub high2: u16,
+    /// The least first byte.
     pub low1: u16,
+    /// The greatest first byte.
     pub high1: u16,
+    /// The default code, which is not used: a code without a glyph has none.
     pub default_code: u16,
+    /// Where the entries begin, a glyph's number of 2 bytes for each code.
     pub entries: usize,
+    /// How many bytes of entries there are.
     pub size: usize,
 }
 
-/// Of the name table: `count` offsets from `offsets` on, into string data of `size` bytes from `strings` on.
+/// Of the name table.
 #[repr(C)]
 #[cfg_attr(test, derive(Default))]
 #[derive(Clone, Copy, Debug, PartialEq, Eq)]
-#[allow(missing_docs)]
 pub struct GlyphNameData {
+    /// Whether numbers have the most significant byte first.
     pub big: bool,
+    /// How many glyphs have a name.
     pub count: u32,
+    /// Where their offsets into the string data begin.
     pub offsets: usize,
+    /// Where the string data begin.
     pub strings: usize,
+    /// How many bytes of string data there are.
     pub size: usize,
 }
 
-/// What loading keeps of a font's six tables. Places count from the start of the font's bytes, and `big` says that a
-/// table's numbers have the most significant byte first.
+/// What loading keeps of a font's six tables. Places count from the start of the font's bytes. Programs have no need to
+/// look inside.
 #[repr(C)]
 #[cfg_attr(test, derive(Default))]
 #[derive(Clone, Copy, Debug, PartialEq, Eq)]
-#[allow(missing_docs)]
 pub struct Record {
+    /// The properties.
     pub props: PropertiesData,
+    /// The accelerators.
     pub accel: Accelerators,
+    /// The metrics.
     pub metrics: MetricsData,
+    /// The bitmaps.
     pub bitmaps: BitmapData,
+    /// The codes.
     pub codes: EncodingData,
+    /// The glyphs' names.
     pub names: GlyphNameData,
 }
 
-/// The height and width of the font's bounds: of the largest box that a glyph has.
+/// The height and width of the font's maximum bounds, in pixels, as its file states them. A glyph may be wider or reach
+/// lower.
 #[repr(C)]
 #[cfg_attr(test, derive(Default))]
 #[derive(Clone, Copy, Debug, PartialEq, Eq)]
-#[allow(missing_docs)]
 pub struct Extent {
+    /// Ascent and descent together.
     pub height: usize,
+    /// The width.
     pub width: usize,
 }
 
-/// A placed glyph: its bitmap is `width` wide and `height` high, and stands `pad_top` below the line's top and
-/// `pad_left` right of the pen.
+/// A placed glyph, in the font's own pixels, before `scale`.
 #[repr(C)]
 #[cfg_attr(test, derive(Default))]
 #[derive(Clone, Copy, Debug, PartialEq, Eq)]
-#[allow(missing_docs)]
 pub struct GlyphInfo {
+    /// The glyph's number.
     pub glyph: GlyphIndex,
+    /// How wide its bitmap is.
     pub width: u16,
+    /// How high its bitmap is.
     pub height: u16,
+    /// How far its bitmap stands below the line's top.
     pub pad_top: u16,
+    /// How far its bitmap stands right of the pen.
     pub pad_left: u16,
 }
 
-/// How many rows of a glyph were drawn, and how many the buffer's end cut off.
+/// How many rows of a glyph's bitmap were drawn, and how many were dropped because the buffer ends.
 #[repr(C)]
 #[cfg_attr(test, derive(Default))]
 #[derive(Clone, Copy, Debug, PartialEq, Eq)]
-#[allow(missing_docs)]
 pub struct Rows {
+    /// Rows drawn.
     pub drawn: u16,
+    /// Rows dropped.
     pub dropped: u16,
 }
 
-/// The height that a text takes, in pixels, and how many rows of all its glyphs were cut off.
+/// The height that a text takes, and how many rows of its glyphs were dropped because the buffer ends.
 #[repr(C)]
 #[cfg_attr(test, derive(Default))]
 #[derive(Clone, Copy, Debug, PartialEq, Eq)]
-#[allow(missing_docs)]
 pub struct TextRows {
+    /// The height in pixels, of all lines.
     pub height: usize,
+    /// Rows dropped, of all glyphs together.
     pub dropped: usize,
 }
 

@@ -25,7 +25,7 @@ fn damaged_fonts() {
             if let Ok(font) = Font::vet(&changed) {
                 let mut page = [0; 100];
                 let drawn = font.draw_string(b"01\n10", &mut page, 0, Some(10), 10, 1, 1);
-                assert!([0, 16].contains(&number(drawn)), "byte {} is {}", at, value);
+                assert!([0, Refusal::BUFFER_SHORT].contains(&number(drawn)), "byte {} is {}", at, value);
             }
         }
     }
@@ -34,25 +34,26 @@ fn damaged_fonts() {
 #[test]
 fn empty_slices() {
     let empty: &[u8] = &[];
-    assert_eq!(number(Font::load(empty)), 1);
+    assert_eq!(number(Font::load(empty)), Refusal::FILE_SHORT);
     assert_eq!(utf8_step(empty, 0), Ok(None));
     let font = Font::vet(F).unwrap();
     assert_eq!(font.draw_string(b"", &mut [], 0, None, 1, 1, 1), Ok(TextRows { height: 3, dropped: 0 }));
     assert_eq!(font.draw_string(b"01", &mut [], 0, None, 1, 1, 1), Ok(TextRows { height: 3, dropped: 6 }));
-    assert_eq!(number(font.unpack_glyph(font.prep_char('0'.into()).unwrap(), &mut [], 0, 1)), 16);
+    let nil = font.prep_char('0'.into()).unwrap();
+    assert_eq!(number(font.unpack_glyph(nil, &mut [], 0, 1)), Refusal::BUFFER_SHORT);
 }
 
 #[test]
 fn a_record_of_another_font() {
     let mut record = *Font::load(BIG).unwrap().record();
-    assert_eq!(number(Font::with_record(F, record).dimensions()), 6);
+    assert_eq!(number(Font::with_record(F, record).dimensions()), Refusal::BAD_TABLE);
     record = *Font::load(F).unwrap().record();
     record.names.strings = usize::MAX;
     let font = Font::with_record(F, record);
-    assert_eq!(number(font.name(GlyphIndex(0))), 6);
-    assert_eq!(number(font.property(0)), 6);
-    assert_eq!(number(font.metrics(GlyphIndex(0))), 6);
-    assert_eq!(number(font.draw_char('0'.into(), &mut [0; 9], 0, 3, 1, 1)), 6);
+    assert_eq!(number(font.name(GlyphIndex(0))), Refusal::BAD_TABLE);
+    assert_eq!(number(font.property(0)), Refusal::BAD_TABLE);
+    assert_eq!(number(font.metrics(GlyphIndex(0))), Refusal::BAD_TABLE);
+    assert_eq!(number(font.draw_char('0'.into(), &mut [0; 9], 0, 3, 1, 1)), Refusal::BAD_TABLE);
 }
 
 #[test]
@@ -75,7 +76,47 @@ fn whole_texts() {
     assert_eq!(codes, text.chars().map(CharCode::from).collect::<Vec<_>>());
     let long = vec![b'0'; 65_536];
     let refusal = Font::vet(F).unwrap().text_check(&long, 9, 0, None, 3, 1).unwrap_err();
-    assert_eq!((refusal.number, refusal.place), (19, 0));
+    assert_eq!(refusal, Refusal { number: Refusal::BAD_TEXT, place: 0 });
+}
+
+#[test]
+fn steps_at_the_end_and_past_it() {
+    let long = vec![b'0'; 65_537];
+    assert_eq!(utf8_step(&long, 65_536), Ok(Some((CharCode(0x30), 65_537))));
+    assert_eq!(utf8_step(&long, 65_537), Ok(None));
+    assert_eq!(utf8_step(&long, usize::MAX), Ok(None));
+}
+
+// a glyph at or above the bitmap count is refused by `draw_bitmap` alone
+#[test]
+fn a_glyph_without_a_bitmap() {
+    let mut record = *Font::vet(F).unwrap().record();
+    record.bitmaps.count = 1;
+    let font = Font::with_record(F, record);
+    let one = font.prep_char('1'.into()).unwrap();
+    let none = Rows { drawn: 0, dropped: 0 };
+    let mut page = [0; 18];
+    assert_eq!(number(font.draw_bitmap(one.glyph, 3, 3, &mut page, 0, 6, 1, 1)), Refusal::NO_BITMAP);
+    assert_eq!(font.draw_glyph(one, &mut page, 0, 6, 1, 1), Ok(none));
+    assert_eq!(font.draw_char('1'.into(), &mut page, 0, 6, 1, 1), Ok((one, none)));
+    assert_eq!(font.unpack_glyph(one, &mut [], 0, 6), Ok(0));
+    assert_eq!(page, [0; 18]);
+    // it moves the pen all the same
+    assert_eq!(font.draw_string(b"10", &mut page, 0, Some(7), 6, 1, 1), Ok(TextRows { height: 3, dropped: 1 }));
+    assert_eq!(page, [0, 0, 0, 1, 1, 1, 0, 0, 0, 1, 0, 1, 0, 0, 0, 0, 0, 0]);
+}
+
+// rows are counted in strides from the bitmap's first pixel, pads included
+#[test]
+fn the_cut() {
+    let font = Font::vet(F).unwrap();
+    let nil = font.prep_char('0'.into()).unwrap();
+    let rows = |info, len| font.draw_glyph(info, &mut vec![0; len], 0, 6, 1, 1).unwrap().drawn;
+    assert_eq!((rows(nil, 18), rows(nil, 17)), (3, 2));
+    let right = GlyphInfo { pad_left: 1, ..nil };
+    assert_eq!((rows(right, 18), rows(right, 19)), (2, 3));
+    let lower = GlyphInfo { pad_top: 2, ..right };
+    assert_eq!((rows(lower, 30), rows(lower, 31), rows(lower, 12)), (2, 3, 0));
 }
 
 #[test]

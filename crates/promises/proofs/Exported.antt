@@ -1,6 +1,7 @@
 -- What a caller in C reads off an exported function's answer is what document 01 says of the library's: number and place on a refusal, and
 -- the values where `refusal` is 0.
 use mathlib.Core.Path.{_≡_, refl}
+use mathlib.Core.Bool.{true, false}
 use mathlib.Core.List.{List}
 use Prim.Native.Nat.{ℕ, zero, suc}
 use lib.IntN.{ℤ}
@@ -37,7 +38,8 @@ use Rattle.utf8.specs.Step.{stepAt, saidStep}
 use Rattle.utf8.specs.declared.Step.{Step}
 use Rattle.text.specs.Text.{drawString, saidText}
 use Rattle.text.specs.declared.TextDrawn.{TextDrawn}
-use Rattle.thalluskin.specs.Reading.{fontAnswer, vetAnswer, propAnswer, propertyAnswer, glyphAnswer, nameAnswer, metricsAnswer}
+use Rattle.font.specs.Shown.{asLoaded, recordOf}
+use Rattle.thalluskin.specs.Reading.{fontAnswer, propAnswer, propertyAnswer, glyphAnswer, nameAnswer, metricsAnswer}
 use Rattle.thalluskin.specs.Placing.{extentAnswer, infoAnswer}
 use Rattle.thalluskin.specs.Drawing.{rowsAnswer, charAnswer, unpackAnswer}
 use Rattle.thalluskin.specs.Texts.{layout, textAnswer, stepAnswer}
@@ -55,7 +57,7 @@ font-read : (x : Loaded) → Numbered (saidLoaded x) → saysFont (fontAnswer x)
 font-read (Loaded.Font rec) h = refl
 font-read (Loaded.Refused r) h = a-refusal (r .number) (r .place) _ h
 
-vet-read : (x : Vetted) → Numbered (saidVetted x) → saysFont (vetAnswer x) ≡ saidVetted x
+vet-read : (x : Vetted) → Numbered (saidVetted x) → saysFont (fontAnswer (asLoaded x)) ≡ saidVetted x
 vet-read (Vetted.Passed rec) h = refl
 vet-read (Vetted.Refused r) h = a-refusal (r .number) (r .place) _ h
 
@@ -108,10 +110,12 @@ property-read : (x : PropFound) → Numbered (saidProp x) → saysProperty (prop
 property-read (PropFound.Property p) h = value-read (p .name) (p .value)
 property-read (PropFound.Refused r) h = a-refusal (r .number) (r .place) _ h
 
-pub load-says : (s : List ℕ) → saysFont (fontAnswer (loaded s)) ≡ saidLoaded (loaded s)
+pub load-says : (s : List ℕ) → saysFont (fontAnswer (recordOf s false)) ≡ saidLoaded (loaded s)
+unfolding recordOf
 load-says s = font-read (loaded s) (load-numbered s)
 
-pub vet-says : (s : List ℕ) → saysFont (vetAnswer (vetted s)) ≡ saidVetted (vetted s)
+pub vet-says : (s : List ℕ) → saysFont (fontAnswer (recordOf s true)) ≡ saidVetted (vetted s)
+unfolding recordOf
 vet-says s = vet-read (vetted s) (vet-numbered s)
 
 pub property-says : (s : List ℕ) (rec : Record) (number : ℕ) → saysProperty (propertyAnswer (propAt s rec number)) ≡ saidProp (propAt s rec number)

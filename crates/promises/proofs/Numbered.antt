@@ -58,7 +58,7 @@ use Rattle.promises.specs.Numbered.{Numbered}
 pub answered : (v : ℤ) (vs : List ℤ) → Numbered (says (v ∷ vs))
 answered v vs = record { within = omega arith; answers = λ e none. let z : length (v ∷ vs) ≡ 0 = ap length none in omega arith }
 
-pub refused : (n place : ℕ) → 1 ≤ n → n ≤ 20 → Numbered (refuses (refusal n place))
+pub refused : (n place : ℕ) → 1 ≤ n → n ≤ 19 → Numbered (refuses (refusal n place))
 refused n place low high = record { within = high; answers = λ e none. omega arith }
 
 at-least-one : (n : ℕ) → (n ≡ 0 → ⊥) → 1 ≤ n
@@ -72,14 +72,14 @@ elsewhere r place h = refused (r .number) place (at-least-one (r .number) (λ e.
 -- loading: a table, an entry, the entries, the file
 abbrev EntryNumbered : Entered → Type 0
 EntryNumbered (Entered.Next g) = Unit {0}
-EntryNumbered (Entered.Refused n) = (1 ≤ n) × (n ≤ 20)
+EntryNumbered (Entered.Refused n) = (1 ≤ n) × (n ≤ 19)
 
 table-numbered : (s : List ℕ) (g : Gathered) (kind format at end : ℕ) → EntryNumbered (added g (tableAt s kind format at end))
 unfolding tableAt propertiesAt acceleratorsAt metricsAt bitmapsAt codesAt namesAt
 table-numbered s g kind format at end =
     let P : TableRead → Type 0 = λ t. EntryNumbered (added g t) in
-    let six : (1 ≤ 6) × (6 ≤ 20) = (omega arith, omega arith) in
-    let seven : (1 ≤ 7) × (7 ≤ 20) = (omega arith, omega arith) in
+    let six : (1 ≤ 6) × (6 ≤ 19) = (omega arith, omega arith) in
+    let seven : (1 ≤ 7) × (7 ≤ 19) = (omega arith, omega arith) in
     let c = codesTable s at in
     either P (eqb kind 1) (either P (ltb end (propertiesEnd (propertiesTable s at))) six tt)
     (either P (eqb kind 2 || eqb kind 256) (either P (ltb end (acceleratorsEnd at)) six tt)
@@ -93,7 +93,7 @@ table-numbered s g kind format at end =
 entry-of-numbered : (s : List ℕ) (g : Gathered) (kind format size offset : ℕ) → EntryNumbered (entryOf s g kind format size offset)
 unfolding entryOf
 entry-of-numbered s g kind format size offset =
-    let five : (1 ≤ 5) × (5 ≤ 20) = (omega arith, omega arith) in
+    let five : (1 ≤ 5) × (5 ≤ 19) = (omega arith, omega arith) in
     either EntryNumbered (ltb (length s) offset) five (table-numbered s g kind format offset (min (offset + size) (length s)))
 
 entry-numbered : (s : List ℕ) (k : ℕ) (g : Gathered) → EntryNumbered (entryAt s k g)
@@ -233,39 +233,39 @@ unfolding prepChar
 prep-char-numbered s rec code =
     either (λ (r : Prepared). Numbered (saidPrepared r)) (recordFits (length s) rec) (prepared-numbered s rec code) (refused 6 0 (omega arith) (omega arith))
 
--- vetting: a fault is at most 20, and the first one is not 0
-prop-within : (p : PropFound) → Numbered (saidProp p) → foundProp p ≤ 20
+-- vetting: a fault is at most 19, and the first one is not 0
+prop-within : (p : PropFound) → Numbered (saidProp p) → foundProp p ≤ 19
 prop-within (PropFound.Property p) h = omega arith
 prop-within (PropFound.Refused r) h = h .within
 
-name-within : (n : Named) → Numbered (saidNamed n) → nameFault n ≤ 20
+name-within : (n : Named) → Numbered (saidNamed n) → nameFault n ≤ 19
 name-within (Named.Name p) h = omega arith
 name-within (Named.Refused r) h = h .within
 
-box-within : (s : List ℕ) (rec : Record) (i : GlyphInfo) → boxFault s rec i ≤ 20
+box-within : (s : List ℕ) (rec : Record) (i : GlyphInfo) → boxFault s rec i ≤ 19
 unfolding boxFault
 box-within s rec i =
-    let P : ℕ → Type 0 = λ n. n ≤ 20 in
+    let P : ℕ → Type 0 = λ n. n ≤ 19 in
     either P (noBitmap (rec .bitmaps) (i .glyph .0)) (omega arith)
     (either P (rowsShort s (rec .bitmaps) (i .glyph .0) (i .width) (i .height)) (omega arith)
     (name-within (nameOf s (rec .names) (i .glyph .0)) (name-of-numbered s (rec .names) (i .glyph .0))))
 
-placed-within : (s : List ℕ) (rec : Record) (p : Prepared) → Numbered (saidPrepared p) → glyphFault s rec p ≤ 20
+placed-within : (s : List ℕ) (rec : Record) (p : Prepared) → Numbered (saidPrepared p) → glyphFault s rec p ≤ 19
 placed-within s rec (Prepared.Info i) h = box-within s rec i
 placed-within s rec (Prepared.Refused r) h = h .within
 
-found-within : (s : List ℕ) (rec : Record) (f : Found) → foundFault s rec f ≤ 20
+found-within : (s : List ℕ) (rec : Record) (f : Found) → foundFault s rec f ≤ 19
 found-within s rec (Found.Glyph g) = placed-within s rec (infoOf s rec g) (info-numbered s rec g)
 found-within s rec (Found.Refused r) = omega arith
 
 abbrev VetNumbered : Vetted → Type 0
 VetNumbered v = Numbered (saidVetted v)
 
-or-numbered : (m k : ℕ) (first : First) (rest : Vetted) → m ≤ 20 → VetNumbered (afterFirst first rest) → VetNumbered (afterFirst (orFirst m k first) rest)
+or-numbered : (m k : ℕ) (first : First) (rest : Vetted) → m ≤ 19 → VetNumbered (afterFirst first rest) → VetNumbered (afterFirst (orFirst m k first) rest)
 or-numbered zero k first rest h r = r
 or-numbered (suc m) k first rest h r = refused (suc m) k (omega arith) h
 
-first-numbered : (fault : ℕ → ℕ) (n k : ℕ) (rest : Vetted) → ((j : ℕ) → fault j ≤ 20) → VetNumbered rest → VetNumbered (afterFirst (firstFault fault n k) rest)
+first-numbered : (fault : ℕ → ℕ) (n k : ℕ) (rest : Vetted) → ((j : ℕ) → fault j ≤ 19) → VetNumbered rest → VetNumbered (afterFirst (firstFault fault n k) rest)
 unfolding firstFault
 first-numbered fault zero k rest h r = r
 first-numbered fault (suc n) k rest h r = or-numbered (fault k) k (firstFault fault n (k + 1)) rest (h k) (first-numbered fault n (k + 1) rest h r)

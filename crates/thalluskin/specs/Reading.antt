@@ -1,9 +1,8 @@
--- What the exported functions of loading and reading answer. "Font bytes and texts as pointer and length": an answer begins with the
--- refusal's number, 0 for none, and the place; then the values, which are 0 on a refusal.
+-- What the exported functions of loading and reading answer: the refusal's number, 0 for none, and the place; then the values. From document
+-- 01: "A refusal returns its number, a place and no other value"; where there is none, a struct has 0.
 use mathlib.Core.Bool.{true, false}
 use Rattle.load.specs.Gather.{noMetrics, blank}
 use Rattle.load.specs.declared.Loaded.{Loaded}
-use Rattle.vet.specs.declared.Vetted.{Vetted}
 use Rattle.lookup.specs.declared.Found.{Found}
 use Rattle.names.specs.declared.Span.{Span}
 use Rattle.names.specs.declared.Named.{Named}
@@ -20,10 +19,6 @@ use Rattle.thalluskin.specs.declared.MetricsAnswer.{MetricsAnswer}
 abbrev pub fontAnswer : Loaded → FontAnswer
 fontAnswer (Loaded.Font rec) = record { refusal = 0; place = 0; rec = rec }
 fontAnswer (Loaded.Refused r) = record { refusal = r .number; place = r .place; rec = blank }
-
-abbrev pub vetAnswer : Vetted → FontAnswer
-vetAnswer (Vetted.Passed rec) = record { refusal = 0; place = 0; rec = rec }
-vetAnswer (Vetted.Refused r) = record { refusal = r .number; place = r .place; rec = blank }
 
 abbrev pub noSpan : Span
 noSpan = record { start = 0; len = 0 }

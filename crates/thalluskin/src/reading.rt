@@ -4,9 +4,9 @@ use crate::GlyphAnswer;
 use crate::MetricsAnswer;
 use crate::NameAnswer;
 use crate::PropertyAnswer;
+use font::record_of;
 use load::Loaded;
 use load::blank;
-use load::load_pcf;
 use load::no_metrics;
 use lookup::Found;
 use lookup::get_glyph;
@@ -22,25 +22,20 @@ use props::prop_at;
 use reads::CharCode;
 use reads::GlyphIndex;
 use tables::Record;
-use vet::Vetted;
-use vet::vet;
 ghost use mathlib.Core.Path.{_≡_};
-ghost use Rattle.load.specs.Load.{loaded};
+ghost use mathlib.Core.Bool.{true, false};
+ghost use Rattle.font.specs.Shown.{recordOf};
 ghost use Rattle.lookup.specs.Lookup.{getGlyph};
 ghost use Rattle.metrics.specs.Measure.{getMetrics};
 ghost use Rattle.names.specs.Names.{getName};
 ghost use Rattle.props.specs.Props.{propAt};
-ghost use Rattle.vet.specs.Vet.{vetted};
-ghost use Rattle.thalluskin.specs.Reading.{fontAnswer, vetAnswer, noSpan, propAnswer, propertyAnswer, glyphAnswer, nameAnswer, metricsAnswer};
+ghost use Rattle.thalluskin.specs.Reading.{fontAnswer, noSpan, propAnswer, propertyAnswer, glyphAnswer, nameAnswer, metricsAnswer};
 
-// The record of a font file, as `load::load_pcf` answers it. Refused with the first of: 1, 2, 3, 4; entry by entry 5, 6
-// and 7, with the entry's number from 0 as the place; 8.
-#[no_mangle]
-pub extern "C" fn thk_load(bytes: &[u8]) -> FontAnswer
-    ensures { λ r. ⌜ r ≡ fontAnswer (loaded (now (bytes .entry))) ⌝ }
+// What loading or vetting answered.
+fn font_answer(loaded: Loaded) -> FontAnswer
+    ensures { λ r. ⌜ r ≡ fontAnswer loaded ⌝ }
 {
-    let answer = load_pcf(bytes);
-    match answer {
+    match loaded {
         Loaded::Font(rec) => FontAnswer {
             refusal: 0,
             place: 0,
@@ -54,25 +49,22 @@ pub extern "C" fn thk_load(bytes: &[u8]) -> FontAnswer
     }
 }
 
+// The record of a font file, as `load::load_pcf` answers it. Refused with the first of: 1, 2, 3, 4; entry by entry, with
+// the entry's number from 0 as the place, 5, 6 (in a code table 6 for its header, 7, 6 for its entries); 8.
+#[no_mangle]
+pub extern "C" fn thk_load(bytes: &[u8]) -> FontAnswer
+    ensures { λ r. ⌜ r ≡ fontAnswer (recordOf (now (bytes .entry)) false) ⌝ }
+{
+    font_answer(record_of(bytes, false))
+}
+
 // The record of a font file that passes vetting, as `vet::vet` answers it. Refused as `thk_load`; then 13; 11 of the
 // bounds; 18 with the property's number as the place; code by code, with the code as the place, 10, 11, 12, 14, 17, 18.
 #[no_mangle]
 pub extern "C" fn thk_vet(bytes: &[u8]) -> FontAnswer
-    ensures { λ r. ⌜ r ≡ vetAnswer (vetted (now (bytes .entry))) ⌝ }
+    ensures { λ r. ⌜ r ≡ fontAnswer (recordOf (now (bytes .entry)) true) ⌝ }
 {
-    let answer = vet(bytes);
-    match answer {
-        Vetted::Passed(rec) => FontAnswer {
-            refusal: 0,
-            place: 0,
-            rec,
-        },
-        Vetted::Refused(r) => FontAnswer {
-            refusal: r.number as u32,
-            place: r.place,
-            rec: blank(),
-        },
-    }
+    font_answer(record_of(bytes, true))
 }
 
 // No part of the bytes.

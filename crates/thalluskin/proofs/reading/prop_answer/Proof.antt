@@ -2,23 +2,23 @@ use borrow.Author.Needs.{needs}
 use Rattle.thalluskin.proofs.reading.prop_answer.Statement.{statement}
 use Rattle.thalluskin.proofs.reading.prop_answer.Tie as tie
 
--- src/reading.rt:92:27
+-- src/reading.rt:84:27
 enum-known-value : tie.Need-enum-known-value
 enum-known-value c = search needs
 
--- src/reading.rt:98:21
+-- src/reading.rt:90:21
 no-span-requires : tie.Need-no-span-requires
 no-span-requires c κs = search needs
 
--- src/reading.rt:100:27
+-- src/reading.rt:92:27
 enum-known-value-2 : tie.Need-enum-known-value-2
 enum-known-value-2 c = search needs
 
--- src/reading.rt:86:1
+-- src/reading.rt:78:1
 returns : tie.Need-returns
 returns c = rw (c .no-span .ensures, c .before .before .value .given .1)
 
--- src/reading.rt:86:1
+-- src/reading.rt:78:1
 returns-2 : tie.Need-returns-2
 returns-2 c = rw (c .before .value2 .given .1)
 

@@ -2,39 +2,39 @@ use borrow.Author.Needs.{needs}
 use Rattle.thalluskin.proofs.reading.thk_property.Statement.{statement}
 use Rattle.thalluskin.proofs.reading.thk_property.Tie as tie
 
--- src/reading.rt:116:9
+-- src/reading.rt:108:9
 prop-at-requires : tie.Need-prop-at-requires
 prop-at-requires c κs = search needs
 
--- src/reading.rt:118:29
+-- src/reading.rt:110:29
 enum-known-answer : tie.Need-enum-known-answer
 enum-known-answer c = search needs
 
--- src/reading.rt:118:35
+-- src/reading.rt:110:35
 prop-answer-requires : tie.Need-prop-answer-requires
 prop-answer-requires c κs = search needs
 
--- src/reading.rt:119:28
+-- src/reading.rt:111:28
 enum-known-answer-2 : tie.Need-enum-known-answer-2
 enum-known-answer-2 c = search needs
 
--- src/reading.rt:120:22
+-- src/reading.rt:112:22
 cast-t8 : tie.Need-cast-t8
 cast-t8 c = search needs
 
--- src/reading.rt:122:19
+-- src/reading.rt:114:19
 no-span-requires : tie.Need-no-span-requires
 no-span-requires c κs = search needs
 
--- src/reading.rt:125:21
+-- src/reading.rt:117:21
 no-span-requires-2 : tie.Need-no-span-requires-2
 no-span-requires-2 c κs = search needs
 
--- src/reading.rt:112:1
+-- src/reading.rt:104:1
 returns : tie.Need-returns
 returns c = rw (c .prop-answer .ensures, ← c .before .before .before .before .prop-at .ensures, c .before .before .answer .given .1)
 
--- src/reading.rt:112:1
+-- src/reading.rt:104:1
 returns-2 : tie.Need-returns-2
 returns-2 c = rw (c .no-span2 .ensures, c .before .no-span .ensures, ← c .before .before .before .before .before .before .prop-at .ensures, c .before .before .before .before .answer2 .given .1)
 
