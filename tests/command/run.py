@@ -19,7 +19,7 @@ from definitions import model  # noqa: E402
 from dump import make  # noqa: E402
 from panel import expected as panel  # noqa: E402
 
-MOST_SHOWN = 393216  # the bytes that a font may have to show a text
+MOST_SHOWN = 573440  # the bytes that a font may have to show a text
 PICTURE = os.path.join(ROOT, "docs", "panel.png")
 
 tried = 0
@@ -52,6 +52,17 @@ def store(folder, name, content):
 
 def dump_of(font):
     return model.dump(make.lines(font))
+
+
+def standing(r):
+    """what the place of a font's refusal is"""
+    if r.number in (5, 6, 7):
+        return "directory entry %d of " % r.place
+    if r.number == 18:
+        return "property %d, or the name of code %04X, of " % (r.place, r.place)
+    if r.number == 11 and r.place == 0:
+        return "the bounds, or code 0000, of "
+    return "code %04X of " % r.place if r.number in (10, 11, 12, 14, 17) else ""
 
 
 def panel_of(rows, dropped):
@@ -142,7 +153,7 @@ def shown(folder):
     own, f = panel.meter.stored_font(), make.fonts.two_digits()
     store(folder, "f.pcf", f)
 
-    def same(what, words, text, width=72, height=20, scale=1, wrap="", font=own):
+    def same(what, words, text, width=72, height=21, scale=1, wrap="", font=own):
         rows, dropped = drawn_by_model(font, text.encode(), width, height, scale, wrap)
         expect(what, run("show", *words, folder=folder), 0, panel_of(rows, dropped), None)
         return dropped
@@ -154,7 +165,7 @@ def shown(folder):
     same("twice as large", ["--scale", "2", "--width", "144", both, "--height", "40"], both, 144, 40, 2)
     same("options with a sign", ["--scale=3", both, "--width=220", "--height=64"], both, 220, 64, 3)
     same("the last of an option counts", ["--scale", "3", "12", "--scale", "2"], "12", scale=2)
-    same("leading noughts", ["12", "--scale", "0002", "--width=090"], "12", 90, 20, 2)
+    same("leading noughts", ["12", "--scale", "0002", "--width=090"], "12", 90, 21, 2)
     same("a text with one dash", ["-5 °C"], "-5 °C")
     same("a text like an option", ["--", "--scale"], "--scale")
     same("options before the dashes", ["--width", "40", "--", "--"], "--", 40)
@@ -230,7 +241,7 @@ def not_shown(folder):
             print("%s is not refused" % name)
             sys.exit(1)
         except model.Refused as r:
-            said = "refused %02d: " % r.number, " (place %d of %s)\n" % (r.place, name)
+            said = "refused %02d: " % r.number, " (%s)\n" % (standing(r) + name)
         got = run("show", "--font", store(folder, name, font), "12", folder=folder)
         expect(name, got, 1, b"", said[0])
         expect(name, got, 1, b"", said[1])
@@ -264,7 +275,7 @@ def not_asked(folder):
     refused("a folder for a font", "a folder", "12", "--font", "a folder")
     refused("a damaged font", "not readable", "12", "--font", "cut.pcf.gz")
     too_long = store(folder, "too_long.pcf", bytes(MOST_SHOWN + 1))
-    refused("too long a font", "over the limit of 393,216 bytes", "12", "--font", too_long)
+    refused("too long a font", "over the limit of 573,440 bytes", "12", "--font", too_long)
     refused("a picture in no folder", "cannot be written: none/a.pbm", "12", "--pbm", "none/a.pbm")
     refused("a folder for a picture", "cannot be written: a folder", "12", "--pbm", "a folder")
     refused("no name of a picture", "cannot be written", "12", "--pbm=")
@@ -338,7 +349,7 @@ def helped(folder):
     if any(b"thalluskin " + command not in text for command in (b"dump FONT.pcf", b"show TEXT", b"help")):
         print("help does not name the commands")
         sys.exit(1)
-    for words in ([], ["help"], ["--help"], ["-h"]):
+    for words in ([], ["help"], ["--help"], ["-h"], ["show", "--help"]):
         expect("help by %s" % words, run(*words, folder=folder), 0, text, None)
 
 

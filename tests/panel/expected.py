@@ -10,13 +10,13 @@ TESTS = os.path.dirname(os.path.dirname(os.path.abspath(__file__)))
 ROOT = os.path.dirname(TESTS)
 PROGRAM = os.path.join(ROOT, "crates", "panel")
 sys.path.insert(0, TESTS)
-sys.path.insert(0, os.path.join(ROOT, "font"))
+sys.path.insert(0, os.path.join(ROOT, "meter-font"))
 
 import make as meter  # noqa: E402
 from definitions import model  # noqa: E402
 
 BLOCKS, PICTURE = 0, 1
-WIDTH, HEIGHT = 72, 20
+WIDTH, HEIGHT = 72, 21
 TEXT = "12 345 kWh\n3.07 m³  21 °C".encode()
 NO_WRAP = 2 ** 64 - 1
 

@@ -26,8 +26,8 @@ ghost use Prim.Native.Nat.{_≤_};
 ghost use lib.ListN.{length};
 ghost use Rattle.panel.specs.Asked.{Sized};
 
-// 65,536 bytes of a text, which is one more than the library takes, and 393,216 of a font.
-const MOST: usize = 28 + 65536 + 393216;
+// 65,536 bytes of a text, which is one more than the library takes, and 573,440 of a font.
+const MOST: usize = 28 + 65536 + 573440;
 
 const PIXELS: usize = 65536;
 

@@ -1,5 +1,5 @@
 #!/usr/bin/env python3
-"""Makes the meter's font, font/meter.hex, from the drawing of its letters in font/letters.txt: a PCF file
+"""Makes the meter's font, meter-font/meter.hex, from the drawing of its letters in meter-font/letters.txt: a PCF file
 as lines of hexadecimal digits, which is what the dump program reads.
 
 Without arguments it says whether meter.hex is what the drawing gives; with --write it stores that."""
@@ -188,7 +188,7 @@ def main():
         fail("make.py takes --write or nothing")
     with open(FONT, encoding="ascii") as f:
         if f.read() != lines(made):
-            fail("font/meter.hex is not what font/letters.txt gives")
+            fail("meter-font/meter.hex is not what meter-font/letters.txt gives")
     print("font: %d letters, %d bytes, as they are drawn" % (len(found), len(made)))
 
 
