@@ -3,6 +3,7 @@
 it prints to the model of document 01. The script itself builds the programs that it runs."""
 import gzip
 import os
+import re
 import shlex
 import socket
 import subprocess
@@ -369,6 +370,22 @@ def told_by_readme():
         expect("the README's " + line.strip(), got, 0, got.stdout if printed == said else said.encode(), None)
 
 
+def readme_of_rattle():
+    """the README's lines of Rattle stand in crates/meter, which is proved and run"""
+    global tried
+    with open(os.path.join(ROOT, "README.md"), encoding="utf-8") as text:
+        part = text.read().split("## Use from Rattle\n")[1].split("\n| Call ")[0]
+    with open(os.path.join(ROOT, "crates", "meter", "src", "main.rt"), encoding="utf-8") as text:
+        example = text.read()
+    for block in re.findall(r"(?:^    .*\n|^\n(?=    ))+", part, re.M):
+        for piece in "".join(line[4:] or "\n" for line in block.splitlines(True)).split("\n\n"):
+            tried += 1
+            if any(line + "\n" not in example for line in piece.splitlines()) or not (
+                    piece.startswith("use ") or piece.strip() in example):
+                print("the README has other lines of Rattle than crates/meter:\n" + piece)
+                sys.exit(1)
+
+
 def main():
     with tempfile.TemporaryDirectory() as folder:
         # the first runs may build the programs, and say so
@@ -386,6 +403,7 @@ def main():
         no_room(folder)
         helped(folder)
         told_by_readme()
+        readme_of_rattle()
     print("command: %d cases, as the model and the script's help say" % tried)
 
 
