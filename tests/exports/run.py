@@ -17,13 +17,15 @@ import tempfile
 
 TESTS = os.path.dirname(os.path.dirname(os.path.abspath(__file__)))
 ROOT = os.path.dirname(TESTS)
-ARCHIVE = os.path.join(ROOT, "target", "staticlib", "libthalluskin.a")
 sys.path.insert(0, TESTS)
 
 from definitions import model  # noqa: E402
 from dump import make as dump  # noqa: E402
 from exports import cases, layouts  # noqa: E402
 from fonts import make as fonts  # noqa: E402
+from native import library  # noqa: E402
+
+ARCHIVE = library.ARCHIVE
 
 BEYOND, PATTERN = 64, 0xA5  # as replay.c has them
 REFUSAL, PLACE = ("refusal",), ("place",)  # where they stand in every answer
@@ -83,9 +85,7 @@ def machine():
             if not has(command, *packages):
                 fail("%s is not there and cannot be installed" % command)
         return Native()
-    rt = os.path.realpath(shutil.which("rt"))
-    kit = os.environ.get("RATTLE_HOME", os.path.dirname(os.path.dirname(rt)))
-    emulator = os.path.join(kit, "on", platform.machine(), "toolchain", "bin", "qemu-x86_64")
+    emulator = os.path.join(library.kit_home(), "on", platform.machine(), "toolchain", "bin", "qemu-x86_64")
     if not os.path.exists(emulator):
         emulator = "qemu-x86_64" if has("qemu-x86_64", "qemu-user") else None
     if emulator and has("x86_64-linux-gnu-gcc", "gcc-x86-64-linux-gnu", "libc6-dev-amd64-cross"):
@@ -95,21 +95,6 @@ def machine():
 
 
 # ---- the archive
-
-
-def sources():
-    for folder, _, files in os.walk(os.path.join(ROOT, "crates")):
-        yield from (os.path.join(folder, file) for file in files)
-
-
-def archive():
-    """makes it, unless there is one that no source is newer than"""
-    if not shutil.which("rt"):
-        fail("the Rattle kit's command 'rt' is not on the PATH")
-    if os.path.exists(ARCHIVE) and os.path.getmtime(ARCHIVE) > max(map(os.path.getmtime, sources())):
-        return
-    must("rt staticlib thalluskin", "rt", "staticlib", "thalluskin", cwd=ROOT)
-    os.utime(ARCHIVE)
 
 
 def symbols(at):
@@ -394,7 +379,10 @@ def readme(at, folder):
 
 
 def main():
-    archive()
+    try:
+        library.archive()
+    except library.Failed as failed:
+        fail(str(failed))
     at = machine()
     symbols(at)
     with tempfile.TemporaryDirectory() as folder:
