@@ -40,7 +40,8 @@ pub fn row_bytes(width: u16) -> u32
     (width as u32 + 7) / 8
 }
 
-// How many bytes lie between the starts of two rows.
+// How many bytes lie between the starts of two rows. The usual paddings are told apart, since dividing by a
+// number that the compiler knows takes no division.
 pub fn row_stride(width: u16, pad: u8) -> u32
     ensures { λ r. ⌜ r ≡ rowStride width pad ⌝ }
 {
@@ -48,7 +49,14 @@ pub fn row_stride(width: u16, pad: u8) -> u32
     if unit == 0 {
         return 0;
     }
-    (row_bytes(width) + (unit - 1)) / unit * unit
+    let bytes = row_bytes(width);
+    if unit == 1 {
+        return bytes;
+    }
+    if unit == 4 {
+        return (bytes + 3) / 4 * 4;
+    }
+    (bytes + (unit - 1)) / unit * unit
 }
 
 // Where a glyph's rows begin in the bitmap data.

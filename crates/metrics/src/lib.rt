@@ -1,6 +1,8 @@
 // A glyph's metrics, and the accelerators with the bounds of all glyphs.
 use reads::GlyphIndex;
 use reads::Refusal;
+use reads::lies_in;
+use reads::metric_of;
 use tables::AcceleratorUnpacked;
 use tables::MetricsData;
 use tables::MetricsUnpacked;
@@ -10,7 +12,9 @@ use tables::narrow_at;
 use tables::record_fits;
 use tables::wide_at;
 ghost use mathlib.Core.Path.{_≡_};
-ghost use Prim.Native.Nat.{_+_};
+ghost use Prim.Native.Nat.{_+_, _≤_};
+ghost use lib.ListN.{length};
+ghost use Rattle.tables.specs.Metrics.{narrowAt};
 ghost use Rattle.metrics.specs.Measure.{measuredAt, metricsOf, getMetrics, getAccelerators};
 
 // The metrics of a glyph.
@@ -43,7 +47,7 @@ fn measured_at(
 }
 
 // The metrics of a glyph in this table, or 10. Does not test the record: bytes past the end read as 0.
-pub fn metrics_of(s: &[u8], m: MetricsData, g: GlyphIndex) -> Measured
+fn metrics_in(s: &[u8], m: MetricsData, g: GlyphIndex) -> Measured
     ensures { λ r. ⌜ r ≡ metricsOf (now (s .entry)) m (g .0) ⌝ }
 {
     let i = g.0 as u32;
@@ -57,6 +61,42 @@ pub fn metrics_of(s: &[u8], m: MetricsData, g: GlyphIndex) -> Measured
     Measured::Metrics(measured_at(s, m.records, offset, m.compressed, m.big))
 }
 
+// A compressed record that lies in the bytes.
+fn narrow_inside(s: &[u8], at: usize) -> MetricsUnpacked
+    requires { ⌜ at + 5 ≤ length (now s) ⌝ }
+    ensures { λ r. ⌜ r ≡ narrowAt (now (s .entry)) at ⌝ }
+{
+    let left = metric_of(s[at]);
+    let right = metric_of(s[at + 1]);
+    let width = metric_of(s[at + 2]);
+    let ascent = metric_of(s[at + 3]);
+    let descent = metric_of(s[at + 4]);
+    MetricsUnpacked {
+        left,
+        right,
+        width,
+        ascent,
+        descent,
+        attributes: 0,
+    }
+}
+
+// The same as `metrics_in`, and short enough to be compiled into every place that asks: with metrics of the
+// usual form one test replaces that of each byte.
+pub fn metrics_of(s: &[u8], m: MetricsData, g: GlyphIndex) -> Measured
+    ensures { λ r. ⌜ r ≡ metricsOf (now (s .entry)) m (g .0) ⌝ }
+{
+    if m.compressed {
+        if (g.0 as u32) < m.count {
+            let offset = 5 * (g.0 as usize);
+            if lies_in(s.len(), m.records, offset, 5) {
+                return Measured::Metrics(narrow_inside(s, m.records + offset));
+            }
+        }
+    }
+    metrics_in(s, m, g)
+}
+
 // A glyph's metrics, whatever they are: 11 is for those who place it. Refused, both with place 0: 6
 // for a record that fails its test with these bytes (`tables::record_fits`), 10 for a glyph at or
 // above the metrics count.
@@ -64,7 +104,7 @@ pub fn get_metrics(bytes: &[u8], rec: Record, glyph: GlyphIndex) -> Measured
     ensures { λ r. ⌜ r ≡ getMetrics (now (bytes .entry)) rec (glyph .0) ⌝ }
 {
     if record_fits(bytes.len(), rec) {
-        metrics_of(bytes, rec.metrics, glyph)
+        metrics_in(bytes, rec.metrics, glyph)
     } else {
         Measured::Refused(Refusal {
             number: 6,

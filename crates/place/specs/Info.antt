@@ -34,6 +34,10 @@ boxOf g m top = record {
   «pad_left» = natAbs (m .left);
 }
 
+-- a glyph with these metrics placed: 11
+abbrev pub boxed : GlyphIndex → MetricsUnpacked → ℤ → Prepared
+boxed g m top = cond (placeable m top) (Prepared.Info (boxOf g m top)) (Prepared.Refused (refusal 11 0))
+
 abbrev pub withMetrics : Measured → (MetricsUnpacked → Prepared) → Prepared
 withMetrics (Measured.Metrics m) rest = rest m
 withMetrics (Measured.Refused r) rest = Prepared.Refused r
@@ -41,9 +45,7 @@ withMetrics (Measured.Refused r) rest = Prepared.Refused r
 -- a glyph placed: 10, 11
 unfoldable pub infoOf : List ℕ → Record → GlyphIndex → Prepared
 infoOf s rec g =
-    let top = boundsOf rec .ascent in
-    withMetrics (metricsOf s (rec .metrics) (g .0)) (λ m.
-    cond (placeable m top) (Prepared.Info (boxOf g m top)) (Prepared.Refused (refusal 11 0)))
+    withMetrics (metricsOf s (rec .metrics) (g .0)) (λ m. boxed g m (boundsOf rec .ascent))
 
 abbrev pub withGlyph : Found → (GlyphIndex → Prepared) → Prepared
 withGlyph (Found.Glyph g) rest = rest g

@@ -19,7 +19,7 @@ use tables::record_fits;
 ghost use mathlib.Core.Path.{_≡_};
 ghost use mathlib.Core.Bool.{true};
 ghost use lib.Signed.{leZ};
-ghost use Rattle.place.specs.Info.{placeable, boxOf, infoOf, prepared, prepChar};
+ghost use Rattle.place.specs.Info.{placeable, boxOf, boxed, infoOf, prepared, prepChar};
 
 fn at_most(a: i16, b: i16) -> bool
     ensures { λ r. ⌜ r ≡ leZ a b ⌝ }
@@ -55,6 +55,19 @@ fn box_of(g: GlyphIndex, m: MetricsUnpacked, top: i16) -> GlyphInfo
     }
 }
 
+// The box of a glyph with these metrics under the maximum bounds' ascent, or 11.
+pub fn boxed(g: GlyphIndex, m: MetricsUnpacked, top: i16) -> Prepared
+    ensures { λ r. ⌜ r ≡ boxed g m top ⌝ }
+{
+    if placeable(m, top) {
+        return Prepared::Info(box_of(g, m, top));
+    }
+    Prepared::Refused(Refusal {
+        number: 11,
+        place: 0,
+    })
+}
+
 // A glyph's box, or 10, 11. Does not test the record: bytes past the end read as 0.
 pub fn info_of(s: &[u8], rec: Record, g: GlyphIndex) -> Prepared
     ensures { λ r. ⌜ r ≡ infoOf (now (s .entry)) rec g ⌝ }
@@ -62,15 +75,7 @@ pub fn info_of(s: &[u8], rec: Record, g: GlyphIndex) -> Prepared
     let top = rec.accel.maxbounds.ascent;
     let measured = metrics_of(s, rec.metrics, g);
     match measured {
-        Measured::Metrics(m) => {
-            if placeable(m, top) {
-                return Prepared::Info(box_of(g, m, top));
-            }
-            Prepared::Refused(Refusal {
-                number: 11,
-                place: 0,
-            })
-        }
+        Measured::Metrics(m) => boxed(g, m, top),
         Measured::Refused(r) => Prepared::Refused(r),
     }
 }

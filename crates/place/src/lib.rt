@@ -5,6 +5,7 @@ mod boxes;
 pub use bounds::bounds_hold;
 pub use bounds::bounds_sized;
 pub use bounds::dimensions;
+pub use boxes::boxed;
 pub use boxes::char_info;
 pub use boxes::info_of;
 pub use boxes::prep_char;

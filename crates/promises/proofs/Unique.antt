@@ -100,6 +100,8 @@ use Rattle.names.proofs.name_of.Kinds as name-of-kinds
 use Rattle.names.proofs.name_of.Reads as name-of-reads
 use Rattle.place.proofs.bounds_hold.Kinds as bounds-hold-kinds
 use Rattle.place.proofs.bounds_hold.Reads as bounds-hold-reads
+use Rattle.place.proofs.boxed.Kinds as boxed-kinds
+use Rattle.place.proofs.boxed.Reads as boxed-reads
 use Rattle.place.proofs.info_of.Kinds as info-of-kinds
 use Rattle.place.proofs.info_of.Reads as info-of-reads
 use Rattle.props.proofs.prop_of.Kinds as prop-of-kinds
@@ -285,6 +287,9 @@ name-of-unique κs a r₁ r₂ x₁ x₂ p q = p ∙ sym q
 
 pub bounds-hold-unique : Fixes 0 bounds-hold-kinds.ps bounds-hold-kinds.r bounds-hold-reads.Post
 bounds-hold-unique κs a r₁ r₂ x₁ x₂ p q = p ∙ sym q
+
+pub boxed-unique : Fixes 0 boxed-kinds.ps boxed-kinds.r boxed-reads.Post
+boxed-unique κs a r₁ r₂ x₁ x₂ p q = p ∙ sym q
 
 pub info-of-unique : Fixes 1 info-of-kinds.ps info-of-kinds.r info-of-reads.Post
 info-of-unique κs a r₁ r₂ x₁ x₂ p q = p ∙ sym q

@@ -5,9 +5,11 @@ use crate::Placed;
 use crate::Wrap;
 use lookup::Found;
 use lookup::glyph_of;
+use metrics::Measured;
+use metrics::metrics_of;
 use place::GlyphInfo;
 use place::Prepared;
-use place::info_of;
+use place::boxed;
 use reads::CharCode;
 use reads::GlyphIndex;
 use tables::Record;
@@ -57,15 +59,23 @@ fn wrapped(rec: Record, lay: Layout, line: usize, info: GlyphInfo, pen: Pen) -> 
     pen
 }
 
+// As `place::info_of`, asked in two steps: the compiler then puts both here, and no box goes through memory.
 fn place_glyph(s: &[u8], rec: Record, lay: Layout, line: usize, g: GlyphIndex, pen: Pen) -> Placed
     requires { ⌜ Settled rec lay line ⌝ }
     requires { ⌜ PenIn 65535 pen ⌝ }
     ensures { λ r. ⌜ r ≡ placeInfo rec lay pen (infoOf (now (s .entry)) rec g) ⌝ }
 {
-    let info = info_of(s, rec, g);
-    match info {
-        Prepared::Info(i) => Placed::Glyph(wrapped(rec, lay, line, i, pen), i),
-        Prepared::Refused(r) => Placed::Refused(r.number),
+    let top = rec.accel.maxbounds.ascent;
+    let measured = metrics_of(s, rec.metrics, g);
+    match measured {
+        Measured::Metrics(m) => {
+            let info = boxed(g, m, top);
+            match info {
+                Prepared::Info(i) => Placed::Glyph(wrapped(rec, lay, line, i, pen), i),
+                Prepared::Refused(r) => Placed::Refused(r.number),
+            }
+        }
+        Measured::Refused(r) => Placed::Refused(r.number),
     }
 }
 

@@ -1,49 +1,60 @@
 use native.Mathlib.Omega.{arith}
-use native.Mathlib.Nat.{mul-le-mul}
-use borrow.Author.Tests.{le-leb, lt-leb}
+use mathlib.Core.Path.{_∙_, sym}
+use borrow.Author.Tests.{leb-true, lt-leb}
+use Prim.Native.Nat.{_+_, _*_}
+use lib.ListN.{length}
 use Rattle.metrics.specs.Measure.{metricsOf}
 use borrow.Author.Needs.{needs}
 use Rattle.metrics.proofs.metrics_of.Statement.{statement}
 use Rattle.metrics.proofs.metrics_of.Tie as tie
 
--- src/lib.rt:49:13
-cast-i : tie.Need-cast-i
-cast-i c = search needs
+-- src/lib.rt:90:13
+cast-if2 : tie.Need-cast-if2
+cast-if2 c = search needs
 
--- src/lib.rt:51:9
-returns : tie.Need-returns
-unfolding metricsOf
-returns c = rw (le-leb _ _ (c .if1 .taken))
-
--- src/lib.rt:56:18
-metric-bytes-requires : tie.Need-metric-bytes-requires
-metric-bytes-requires c κs = search needs
-
--- src/lib.rt:56:48
+-- src/lib.rt:91:31
 cast-offset : tie.Need-cast-offset
 cast-offset c = search needs
 
--- src/lib.rt:56:18
+-- src/lib.rt:91:26
 mul-offset : tie.Need-mul-offset
-mul-offset c = omega (arith, mul-le-mul {n₁ = c .metric-bytes .result} {m₁ = c .before .before .before .before .before .args .g .0} {n₂ = 12} {m₂ = 65535} (c .metric-bytes .ensures .1) (search needs))
+mul-offset c = search needs
 
--- src/lib.rt:57:23
-measured-at-requires : tie.Need-measured-at-requires
-measured-at-requires c κs = search needs
+-- src/lib.rt:92:16
+lies-in-requires : tie.Need-lies-in-requires
+lies-in-requires c κs = search needs
 
--- src/lib.rt:46:1
-returns-2 : tie.Need-returns-2
+-- src/lib.rt:93:59
+add-narrow-inside : tie.Need-add-narrow-inside
+add-narrow-inside c = omega (arith, leb-true (c .before .before .before .before .before .before .before .before .before .args .m .records + 5 * c .before .before .before .before .before .before .before .before .before .args .g .0 + 5) (length (c .before .before .before .before .before .before .before .before .before .args .s .now)) (sym (c .before .before .lies-in .ensures) ∙ c .before .if3 .taken))
+
+-- src/lib.rt:93:42
+narrow-inside-requires : tie.Need-narrow-inside-requires
+narrow-inside-requires c κs = leb-true (c .before .before .before .before .before .before .before .before .before .args .m .records + 5 * c .before .before .before .before .before .before .before .before .before .args .g .0 + 5) (length (c .before .before .before .before .before .before .before .before .before .args .s .now)) (sym (c .before .before .lies-in .ensures) ∙ c .before .if3 .taken)
+
+-- src/lib.rt:93:17
+returns : tie.Need-returns
 unfolding metricsOf
-returns-2 c = rw (lt-leb _ _ (c .before .before .if1 .left), ← c .before .metric-bytes .ensures .0, ← c .measured-at .ensures)
+returns c = rw (lt-leb _ _ (c .before .before .before .before .before .if2 .taken), c .before .before .before .before .before .before .before .before .if1 .taken, ← c .narrow-inside .ensures)
+
+-- src/lib.rt:97:5
+metrics-in-requires : tie.Need-metrics-in-requires
+metrics-in-requires c κs = search needs
+
+-- src/lib.rt:86:1
+returns-2 : tie.Need-returns-2
+returns-2 c = search needs
 
 pub metrics-of-spec : {M : Type 1} → statement M
 metrics-of-spec =
     tie.close
     (tie.spec
-    cast-i
-    returns
-    metric-bytes-requires
+    cast-if2
     cast-offset
     mul-offset
-    measured-at-requires
+    lies-in-requires
+    add-narrow-inside
+    narrow-inside-requires
+    returns
+    metrics-in-requires
     returns-2)

@@ -3,19 +3,19 @@ use borrow.Author.Needs.{needs}
 use Rattle.bitmaps.proofs.data.offset_of.Statement.{statement}
 use Rattle.bitmaps.proofs.data.offset_of.Tie as tie
 
--- src/data.rt:58:31
+-- src/data.rt:66:31
 cast-u32-at : tie.Need-cast-u32-at
 cast-u32-at c = search needs
 
--- src/data.rt:58:26
+-- src/data.rt:66:26
 mul-u32-at : tie.Need-mul-u32-at
 mul-u32-at c = search needs
 
--- src/data.rt:58:5
+-- src/data.rt:66:5
 u32-at-requires : tie.Need-u32-at-requires
 u32-at-requires c κs = search needs
 
--- src/data.rt:55:1
+-- src/data.rt:63:1
 returns : tie.Need-returns
 unfolding offsetOf
 returns c = c .u32-at .ensures

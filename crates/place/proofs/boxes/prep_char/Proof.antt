@@ -3,20 +3,20 @@ use borrow.Author.Needs.{needs}
 use Rattle.place.proofs.boxes.prep_char.Statement.{statement}
 use Rattle.place.proofs.boxes.prep_char.Tie as tie
 
--- src/boxes.rt:95:8
+-- src/boxes.rt:100:8
 record-fits-requires : tie.Need-record-fits-requires
 record-fits-requires c κs = search needs
 
--- src/boxes.rt:96:9
+-- src/boxes.rt:101:9
 char-info-requires : tie.Need-char-info-requires
 char-info-requires c κs = search needs
 
--- src/boxes.rt:92:1
+-- src/boxes.rt:97:1
 returns : tie.Need-returns
 unfolding prepChar
 returns c = rw (← c .before .before .record-fits .ensures, c .before .if1 .taken, ← c .char-info .ensures)
 
--- src/boxes.rt:92:1
+-- src/boxes.rt:97:1
 returns-2 : tie.Need-returns-2
 unfolding prepChar
 returns-2 c = rw (← c .before .record-fits .ensures, c .if1 .left)

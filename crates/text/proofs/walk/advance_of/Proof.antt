@@ -4,15 +4,15 @@ use borrow.Author.Needs.{needs}
 use Rattle.text.proofs.walk.advance_of.Statement.{statement}
 use Rattle.text.proofs.walk.advance_of.Tie as tie
 
--- src/walk.rt:35:5
+-- src/walk.rt:37:5
 cast-result : tie.Need-cast-result
 cast-result c = search needs
 
--- src/walk.rt:35:5
+-- src/walk.rt:37:5
 mul-result : tie.Need-mul-result
 mul-result c = omega (arith, advance-most (c .before .before .args .lay) (c .before .before .args .info) (omega arith) (omega arith))
 
--- src/walk.rt:31:1
+-- src/walk.rt:33:1
 returns : tie.Need-returns
 returns c = search needs
 

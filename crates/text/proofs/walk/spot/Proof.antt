@@ -4,19 +4,19 @@ use borrow.Author.Needs.{needs}
 use Rattle.text.proofs.walk.spot.Statement.{statement}
 use Rattle.text.proofs.walk.spot.Tie as tie
 
--- src/walk.rt:103:17
+-- src/walk.rt:113:17
 mul-result : tie.Need-mul-result
 mul-result c = omega (arith, line-most (c .before .before .args .lay) (c .before .before .args .pen) (omega arith) (c .before .before .pre .2))
 
--- src/walk.rt:103:5
+-- src/walk.rt:113:5
 add-result : tie.Need-add-result
 add-result c = omega (arith, line-most (c .before .before .before .args .lay) (c .before .before .before .args .pen) (omega arith) (c .before .before .before .pre .2))
 
--- src/walk.rt:103:5
+-- src/walk.rt:113:5
 add-result-2 : tie.Need-add-result-2
 add-result-2 c = omega (arith, line-most (c .before .before .before .before .args .lay) (c .before .before .before .before .args .pen) (omega arith) (c .before .before .before .before .pre .2))
 
--- src/walk.rt:99:1
+-- src/walk.rt:109:1
 returns : tie.Need-returns
 returns c = search needs
 
