@@ -1,0 +1,136 @@
+/* Characters: placed, drawn and unpacked; and the bounds that their metrics have in FreeType. */
+#include <stdlib.h>
+#include <string.h>
+
+#include "peers.h"
+
+static void widen(long value, long *least, long *most)
+{
+    *least = value < *least ? value : *least;
+    *most = value > *most ? value : *most;
+}
+
+/* Takes a code's glyph into the bounds. One whose metrics are all 0 is in X's fonts no glyph. */
+static void measure(struct font *f, FT_GlyphSlot slot)
+{
+    struct extremes *l = &f->least, *m = &f->most;
+
+    if (slot->advance.x == 0 && slot->bitmap_left == 0 && slot->bitmap.width == 0 && slot->bitmap_top == 0
+        && slot->bitmap.rows == 0)
+        return;
+    widen(slot->bitmap_left, &l->left, &m->left);
+    widen(slot->bitmap_left + (long)slot->bitmap.width, &l->right, &m->right);
+    widen(slot->advance.x / 64, &l->width, &m->width);
+    widen(slot->bitmap_top, &l->ascent, &m->ascent);
+    widen((long)slot->bitmap.rows - slot->bitmap_top, &l->descent, &m->descent);
+}
+
+/* Whether the metrics that FreeType has are such as 11 refuses; it does not tell the ascent of the bounds. */
+static bool out_of_range(const struct font *f, FT_GlyphSlot slot)
+{
+    return slot->advance.x < 0 || slot->bitmap_top < 0 || slot->bitmap_left < 0 || slot->bitmap.rows > HIGHEST
+           || slot->bitmap_top > f->rec.accel.maxbounds.ascent;
+}
+
+static size_t row_bytes(const struct font *f, size_t width)
+{
+    size_t pad = f->rec.bitmaps.pad;
+
+    return ((width + 7) / 8 + pad - 1) / pad * pad;
+}
+
+size_t larger(size_t a, size_t b)
+{
+    return a > b ? a : b;
+}
+
+/* Whether a page has FreeType's bitmap up to the column `cut`. Columns before that which FreeType's does not have are
+ * passed over. */
+static bool same_bitmap(const struct font *f, struct page ours, size_t left, size_t top, size_t cut, const char *what,
+                        uint32_t code)
+{
+    const FT_Bitmap *of = &f->face->glyph->bitmap;
+    struct page peers = blank(ours.lines, ours.stride);
+    bool right;
+
+    if (!bit_order(f))
+        put(peers, of, top, left, cut);
+    right = same_pages(f, ours, peers, left + of->width, left + cut, what, code);
+    free(peers.pixels);
+    return right;
+}
+
+static struct page drawn_char(const struct font *f, uint32_t code, size_t lines, size_t stride)
+{
+    struct page p = blank(lines, stride);
+    thk_char_answer ours = thk_draw_char(FONT(f), (thk_char_code){code}, p.pixels, lines * stride, 0, stride, 1, SET);
+
+    same(f, ours.refusal, bit_order(f), "refusal of drawing code %ld", (long)code);
+    if (!ours.refusal)
+        same(f, ours.rows.drawn, f->face->glyph->bitmap.rows, "rows drawn of code %ld", (long)code);
+    return p;
+}
+
+static struct page unpacked(const struct font *f, uint32_t code, thk_glyph_info info, size_t lines, size_t stride)
+{
+    struct page p = blank(lines, stride);
+    uint8_t *bytes = malloc(lines * stride);
+    thk_unpack_answer ours;
+    size_t i;
+
+    if (!bytes)
+        fail("no memory");
+    memset(bytes, BLANK, lines * stride);
+    ours = thk_unpack_glyph(FONT(f), info, bytes, lines * stride, 0, stride);
+    same(f, ours.refusal, bit_order(f), "refusal of unpacking code %ld", (long)code);
+    if (!ours.refusal)
+        same(f, ours.rows, f->face->glyph->bitmap.rows, "rows unpacked of code %ld", (long)code);
+    for (i = 0; i < lines * stride; i++)
+        p.pixels[i] = bytes[i];
+    free(bytes);
+    return p;
+}
+
+bool character(struct font *f, uint32_t code)
+{
+    FT_GlyphSlot slot = loaded(f, FT_Get_Char_Index(f->face, code));
+    thk_info_answer placed = thk_prep_char(FONT(f), (thk_char_code){code});
+    thk_glyph_info info = placed.info;
+    size_t box, whole, left, top, lines, stride;
+    bool right, bad;
+
+    if (!slot)
+        return false;
+    measure(f, slot);
+    bad = out_of_range(f, slot);
+    if (bad && f->bad < 0)
+        f->bad = code;
+    if (!same(f, placed.refusal, bad ? THK_BAD_METRICS : THK_DONE, "refusal of code %ld", (long)code) || bad) {
+        count.out_of_range++;
+        return false;
+    }
+    box = slot->bitmap.width;
+    left = (size_t)slot->bitmap_left;
+    top = (size_t)(f->rec.accel.maxbounds.ascent - slot->bitmap_top);
+    right = same(f, info.width * 64L, slot->advance.x, "64 times the width of code %ld", (long)code)
+            && same(f, info.height, slot->bitmap.rows, "height of code %ld", (long)code)
+            && same(f, info.pad_left, (long long)left, "left pad of code %ld", (long)code)
+            && same(f, info.pad_top, (long long)top, "top pad of code %ld", (long)code);
+    if (!right)
+        return false;
+    if (row_bytes(f, info.width) != row_bytes(f, box)) {
+        count.other_rows++;
+        return false;
+    }
+    whole = (info.width + 7U) / 8 * 8; /* the columns that unpacking stores */
+    lines = top + info.height + 1;
+    stride = left + larger(whole, box) + 1;
+    right = same_bitmap(f, drawn_char(f, code, lines, stride), left, top, info.width, "code", code);
+    right &= same_bitmap(f, unpacked(f, code, info, lines, stride), left, top, whole, "unpacked code", code);
+    if (bit_order(f))
+        return false;
+    count.characters += right;
+    count.cut += right && info.width < box;
+    count.wider += right && info.width > box;
+    return right && info.width == box;
+}

@@ -1,0 +1,116 @@
+/* What the files of this program share: a font in both readers, what is counted, differences, pages of pixels. */
+#ifndef PEERS_H
+#define PEERS_H
+
+#include <ft2build.h>
+#include FT_FREETYPE_H
+
+#include <stdbool.h>
+#include <stddef.h>
+#include <stdint.h>
+
+#include "thalluskin.h"
+
+enum {
+    CODES = 65536,
+    BEYOND = 1024,    /* codes after those, which have no glyph */
+    HIGHEST = 32767,  /* of a glyph */
+    LETTERS = 40,     /* of a text at most */
+    SHOWN = 5,        /* differences in full */
+    SET = 1,          /* a pixel or byte that was written */
+    BLANK = 3         /* one that was not */
+};
+
+struct extremes {
+    long left, right, width, ascent, descent;
+};
+
+struct font {
+    const char *name;
+    const uint8_t *bytes;
+    size_t len;
+    thk_record rec;
+    FT_Face face;
+    long long bad;         /* the first code of which FreeType's metrics are out of range, or -1 */
+    struct extremes least; /* of FreeType's metrics of all codes' glyphs */
+    struct extremes most;
+};
+
+#define FONT(f) (f)->bytes, (f)->len, (f)->rec
+
+#define COUNTED(C)                                                                                                     \
+    C(fonts) C(neither) C(long_metrics) C(padded_to_8) C(bounds) C(vetted) C(refused_11) C(refused_13) C(numbers)      \
+    C(strings) C(repeated) C(with_glyph) C(without_glyph) C(metrics) C(bitmaps) C(empty) C(not_drawn) C(defaults)      \
+    C(no_default) C(characters) C(cut) C(wider) C(out_of_range) C(other_rows) C(texts) C(letters) C(names)             \
+    C(differences)
+
+#define FIELD(name) unsigned long name;
+extern struct counts {
+    COUNTED(FIELD)
+} count;
+
+void fail(const char *what);
+
+/* ---- pages.c */
+
+struct page {
+    size_t lines, stride;
+    uint32_t *pixels;
+};
+
+/* Counts a difference: whether it is one to print. */
+bool shown(void);
+
+/* Whether two numbers are the same; `what` says which they are, as printf's first argument. */
+__attribute__((format(printf, 4, 5)))
+bool same(const struct font *f, long long ours, long long peers, const char *what, ...);
+
+struct page blank(size_t lines, size_t stride);
+
+/* Colours FreeType's bitmap on a page, but for columns from `cut` on. */
+void put(struct page p, const FT_Bitmap *of, size_t top, size_t left, size_t cut);
+
+/* Whether the pages are the same but for their columns from `past` up to `end`; gives back the first. */
+bool same_pages(const struct font *f, struct page ours, struct page peers, size_t past, size_t end, const char *what,
+                long number);
+
+/* ---- tables.c */
+
+void accelerators(const struct font *f);
+void property(const struct font *f, uint32_t number);
+void bounds(const struct font *f);
+void vetting(const struct font *f);
+
+/* Lines of a code, a space and the name of its glyph. */
+void names(const struct font *f, char *lines);
+
+/* ---- glyphs.c */
+
+/* The glyph in FreeType, under this index. */
+FT_GlyphSlot loaded(const struct font *f, FT_UInt index);
+
+/* 13 where the library draws nothing of the font, else 0. */
+uint32_t bit_order(const struct font *f);
+
+/* The metrics and the bitmap of a glyph, which FreeType has under the index. */
+void glyph(const struct font *f, thk_glyph_index number, FT_UInt index);
+
+/* The glyph that FreeType puts before all others: the default code's; if the table does not reach to that code, its
+ * first one's; if there is none, the first. */
+thk_glyph_index copied(const struct font *f);
+
+/* ---- characters.c */
+
+size_t larger(size_t a, size_t b);
+
+/* A character placed, drawn and unpacked, where the rows of FreeType's bitmap and of the library's are the same bytes.
+ * Whether it may stand in a text: is drawn, and as wide as its box. */
+bool character(struct font *f, uint32_t code);
+
+/* ---- texts.c */
+
+/* The codes as one line, their bitmaps laid side by side by FreeType's advances. Each is as wide as its box and has a
+ * left bearing of at least 0, so that the bitmaps end before their pens' sum. */
+void text(const struct font *f, const uint32_t *codes, size_t n);
+
+#endif
