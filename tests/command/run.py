@@ -347,11 +347,20 @@ def no_room(folder):
 
 def helped(folder):
     text = run("help", folder=folder).stdout
-    if any(b"thalluskin " + command not in text for command in (b"dump FONT.pcf", b"show TEXT", b"help")):
+    if any(b"thalluskin " + command not in text for command in (b"dump FONT.pcf", b"show TEXT", b"bench", b"help")):
         print("help does not name the commands")
         sys.exit(1)
     for words in ([], ["help"], ["--help"], ["-h"], ["show", "--help"]):
         expect("help by %s" % words, run(*words, folder=folder), 0, text, None)
+
+
+def benched(folder):
+    """the bench without times; the whole of it is for a quiet machine"""
+    for words in (["--slow"], ["--quick", "--write"], ["quick"], [""]):
+        expect("bench %s" % words, run("bench", *words, folder=folder), 2, b"", "bench takes --quick, --write or nothing")
+    got = run("bench", "--quick", folder=folder)
+    said = re.fullmatch(rb"bench: (\d+ cases in which both sides agree, .*; not timed|not run, because .*)\n", got.stdout)
+    expect("a quick bench", got, 0, got.stdout if said else b"bench: ..", None)
 
 
 def told_by_readme():
@@ -402,6 +411,7 @@ def main():
         pictures(folder)
         no_room(folder)
         helped(folder)
+        benched(folder)
         told_by_readme()
         readme_of_rattle()
     print("command: %d cases, as the model and the script's help say" % tried)

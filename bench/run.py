@@ -1,0 +1,201 @@
+#!/usr/bin/env python3
+"""Times the port against 000, the Rust original, and counts both sides' instructions, on the same calls.
+
+    bench/run.py [--quick | --write] [--only CALL]
+
+Prints the tables; with --write puts them into docs/PERFORMANCE.md. With --quick each call is made once and the two
+sides' pixels and answers are compared, and nothing is timed. --only takes the lines of one call, as draw_string.
+A difference ends with status 1."""
+import argparse
+import gzip
+import os
+import platform
+import shutil
+import subprocess
+import sys
+
+HERE = os.path.dirname(os.path.abspath(__file__))
+ROOT = os.path.dirname(HERE)
+FOLDER = os.path.join(ROOT, "target", "bench")
+PAGE = os.path.join(ROOT, "docs", "PERFORMANCE.md")
+MISC = "/usr/share/fonts/X11/misc"
+sys.path[:0] = [HERE, os.path.join(ROOT, "tests")]
+
+import tables  # noqa: E402
+import twin  # noqa: E402
+from native import library  # noqa: E402
+from original import build  # noqa: E402
+
+CALLS = ("draw_glyph", "draw_string", "text_check", "unpack_glyph", "load", "lookup", "vet")
+SIZES = {"6x12": 12, "8x14": 14, "8x16": 16, "10x20": 20, "12x24": 24, "14x28": 28, "16x32": 32}  # Terminus
+ROWS = (1, 4, 16, 64, 256)  # of Unifont's table of 256 rows of 256 codes
+
+
+def tools():
+    """sees that what makes the library for this machine is there"""
+    if not shutil.which("rt"):
+        raise build.Missing("the Rattle kit's command 'rt' is not on the PATH")
+    if not (shutil.which("gcc") and shutil.which("ar")):
+        build.install("gcc", "binutils")
+
+
+def debian_font(package, name):
+    path = os.path.join(MISC, name)
+    if not os.path.exists(path):
+        build.install(package)
+    if not os.path.exists(path):
+        raise build.Missing("%s, of Debian's %s, is not there" % (name, package))
+    with gzip.open(path) as f:
+        return f.read()
+
+
+def make_fonts(folder):
+    """the folder of twins, and how many codes have a glyph in those that have Unifont's first codes"""
+    shutil.rmtree(folder, ignore_errors=True)
+    os.makedirs(folder)
+
+    def store(name, font):
+        with open(os.path.join(folder, name + ".pcf"), "wb") as out:
+            out.write(font)
+    for name, height in SIZES.items():
+        store(name, twin.twin(debian_font("xfonts-terminus", "ter-u%dn_unicode.pcf.gz" % height)))
+    unifont = debian_font("xfonts-unifont", "unifont.pcf.gz")
+    store("unifont", twin.twin(unifont))
+    with_glyph = {}
+    for rows in ROWS:
+        name = "unifont-%d" % (256 * rows)
+        store(name, twin.twin(unifont, rows))
+        with_glyph[name] = twin.codes_with_glyph(unifont, rows)
+    return folder, with_glyph
+
+
+def driver(archive):
+    build.crate(FOLDER, os.path.join(ROOT, "tests", "original", "appended.rs"))
+    return build.program(FOLDER, os.path.join(HERE, "driver.rs"), archive)
+
+
+def said(*words):
+    got = subprocess.run(words, stdout=subprocess.PIPE, stderr=subprocess.PIPE)
+    if got.returncode != 0:
+        sys.exit("bench: %s" % got.stderr.decode(errors="replace")[-2000:].strip())
+    return [line.split("\t") for line in got.stdout.decode().splitlines()]
+
+
+# ---- instructions
+
+
+def callgrind(program, fonts, only):
+    """instructions of a call, for each line and side; each call is counted twice, and has to repeat"""
+    if not shutil.which("valgrind"):
+        build.install("valgrind")
+    if not shutil.which("valgrind"):
+        print("bench: instructions are not counted, because valgrind is not there", file=sys.stderr)
+        return {}
+    folder = os.path.join(FOLDER, "counts")
+    shutil.rmtree(folder, ignore_errors=True)
+    os.makedirs(folder)
+    out = os.path.join(folder, "part")
+    lines = said("valgrind", "-q", "--tool=callgrind", "--collect-atstart=no", "--callgrind-out-file=" + out, program,
+                 fonts, "count", *only)
+
+    def total(number):
+        with open("%s.%d" % (out, number)) as part:
+            return next(int(line.split()[1]) for line in part if line.startswith("totals:"))
+    counts = {}
+    nothing = total(1)
+    for k, (*key, per) in enumerate(lines):
+        one, other = total(2 * k + 2) - nothing, total(2 * k + 3) - nothing
+        if one != other:
+            sys.exit("bench: the count of %s does not repeat: %d, %d" % (" ".join(key), one, other))
+        counts[tuple(key)] = one / int(per)
+    return counts
+
+
+# ---- what is printed
+
+
+def machine(what):
+    """the machine, the compiler and what was linked, in words"""
+    model = "an unknown processor"
+    if shutil.which("lscpu"):
+        said_of = dict(line.split(":", 1) for line in subprocess.run(
+            ["lscpu"], stdout=subprocess.PIPE, env={**os.environ, "LC_ALL": "C"}).stdout.decode().splitlines()
+            if ":" in line)
+        model = said_of.get("Model name", model).strip()
+    compiler = subprocess.run(["rustc", "--version"], stdout=subprocess.PIPE).stdout.decode().split(" (")[0]
+    return "Machine: %s, %s. Compiler of 000: %s, opt-level 3, without overflow checks. The port: %s." % (
+        platform.machine(), model, compiler, what)
+
+
+def measure(program, fonts, only):
+    counts = callgrind(program, fonts, only)
+    times = {tuple(line[:4]): tuple(map(float, line[4:])) for line in said(program, fonts, "time", *only)}
+    return tables.Measured(times, counts)
+
+
+def parts(what, measured, with_glyph):
+    """title and text of each part, by the name of its mark in docs/PERFORMANCE.md"""
+    made = {"machine": ("", machine(what))}
+    for name, title, (heads, rows) in (
+            ("goals", "Goals", tables.goals(measured)),
+            ("calls", "Calls", tables.calls(measured)),
+            ("length", "draw_string, 8x16, scale 1, wrapped after 40 characters", tables.length(measured)),
+            ("scale", "draw_string, 60 characters, 8x16", tables.scale(measured)),
+            ("size", "draw_glyph, scale 1", tables.size(measured)),
+            ("codes", "Unifont with its first codes", tables.codes(measured, with_glyph))):
+        if rows:
+            made[name] = title, tables.text(heads, rows)
+    return made
+
+
+def write(made):
+    """replaces what stands between the marks"""
+    with open(PAGE, encoding="utf-8") as f:
+        page = f.read()
+    for name, (_, text) in made.items():
+        start, end = "<!-- %s -->\n" % name, "<!-- end of %s -->" % name
+        if page.count(start) != 1 or page.count(end) != 1:
+            sys.exit("bench: %s has not one mark %s" % (PAGE, name))
+        page = page[:page.index(start) + len(start)] + text + "\n" + page[page.index(end):]
+    with open(PAGE, "w", encoding="utf-8") as f:
+        f.write(page)
+
+
+def options():
+    words = argparse.ArgumentParser(prog="bench/run.py")
+    words.add_argument("--quick", action="store_true", help="make each call once and compare; time nothing")
+    words.add_argument("--write", action="store_true", help="put the tables into docs/PERFORMANCE.md")
+    words.add_argument("--only", choices=CALLS, help="the lines of one call")
+    asked = words.parse_args()
+    if asked.write and (asked.quick or asked.only):
+        words.error("--write takes all lines, timed")
+    return asked
+
+
+def main():
+    asked = options()
+    only = [asked.only] if asked.only else []
+    try:
+        build.text()
+        tools()
+        archive, what = library.for_this_machine()
+        program = driver(archive)
+        fonts, with_glyph = make_fonts(os.path.join(FOLDER, "fonts"))
+    except build.Missing as missing:
+        print("bench: not run, because %s" % missing)
+        return
+    except (library.Failed, RuntimeError) as failed:
+        sys.exit("bench: %s" % failed)
+    if asked.quick:
+        sides = [line[0] for line in said(program, fonts, "check", *only)]
+        print("bench: %d cases in which both sides agree, and %d that the port alone has; not timed" % (
+            sides.count("both"), sides.count("port")))
+        return
+    made = parts(what, measure(program, fonts, only), with_glyph)
+    print("\n\n".join("\n\n".join(filter(None, part)) for part in made.values()))
+    if asked.write:
+        write(made)
+
+
+if __name__ == "__main__":
+    main()

@@ -1,0 +1,100 @@
+"""What was measured, as tables. A measurement's key is table, call, font and what grows, as the driver prints them."""
+import re
+
+
+class Measured:
+    def __init__(self, times, counts):
+        """times: key to port ns, 000 ns, ratio and its quartiles; counts: key and side to instructions"""
+        self.times, self.counts = times, counts
+
+    def keys(self, table, call=None):
+        return [key for key in self.times if key[0] == table and call in (None, key[1])]
+
+    def ns(self, key, each=1):
+        """port ns, 000 ns, ratio, quartiles; of what 000 does not have the first alone"""
+        port, original, ratio, lower, upper = self.times[key]
+        if not original:
+            return [number(port / each), "", "", ""]
+        return [number(port / each), number(original / each), "%.2f" % ratio, "%.2f to %.2f" % (lower, upper)]
+
+    def instructions(self, key, each=1):
+        """the port's, 000's, ratio; empty where they were not counted"""
+        port, original = (self.counts.get((*key, side)) for side in ("port", "000"))
+        return [number(port / each) if port else "", number(original / each) if original else "",
+                "%.2f" % (port / original) if port and original else ""]
+
+
+def number(x):
+    return "%.1f" % x if x < 100 else "{:,.0f}".format(x)
+
+
+NS = ["port ns", "000 ns", "ratio", "quartiles"]
+INSTRUCTIONS = ["port instr.", "000 instr.", "ratio"]
+
+
+def calls(got):
+    rows = []
+    for key in got.keys("calls"):
+        _, call, font, scale = key
+        name, comma, how = call.partition(",")
+        rows.append(["`%s`%s%s" % (name, comma, how), font, "" if scale == "0" else scale, *got.ns(key),
+                     *got.instructions(key)])
+    return ["call", "font", "scale", *NS, *INSTRUCTIONS], rows
+
+
+def length(got):
+    rows = []
+    for key in got.keys("length"):
+        count = int(key[3])
+        rows.append(["{:,}".format(count), *got.ns(key)[:3], *got.ns(key, count)[:2], *got.instructions(key, count)])
+    return ["characters", *NS[:3], "port ns each", "000 ns each", "port instr. each", "000 instr. each", "ratio"], rows
+
+
+def scale(got):
+    rows = [[key[3], *got.ns(key)[:3], *got.instructions(key)] for key in got.keys("scale")]
+    return ["scale", *NS[:3], *INSTRUCTIONS], rows
+
+
+def size(got):
+    rows = [[key[2], key[3], *got.ns(key)[:3], *got.instructions(key)] for key in got.keys("size")]
+    return ["font", "pixels", *NS[:3], *INSTRUCTIONS], rows
+
+
+def codes(got, with_glyph):
+    """with_glyph: how many of a font's codes have a glyph, by the font's name"""
+    rows = []
+    for _, _, font, count in got.keys("codes", "lookup"):
+        load, lookup, vet = (("codes", call, font, count) for call in ("load", "lookup", "vet"))
+        if load in got.times and vet in got.times:
+            rows.append(["{:,}".format(int(count)), "{:,}".format(with_glyph[font]), *got.ns(load)[:2],
+                         *got.ns(lookup)[:2], *got.ns(vet)[:1], *got.ns(vet, with_glyph[font])[:1]])
+    return ["codes", "with a glyph", "load: port ns", "000 ns", "lookup: port ns", "000 ns", "vet: port ns",
+            "each glyph"], rows
+
+
+# what is to be reached: a call on a font, in milliseconds or as a ratio to 000
+GOALS = [("vet", "unifont", "ms", 20), ("lookup", "unifont", "times 000", 1.5)]
+
+
+def goals(got):
+    rows = []
+    for call, font, unit, most in GOALS:
+        key = ("calls", call, font, "0")
+        if key in got.times:
+            took, _, ratio, *_ = got.times[key]
+            measured = took / 1e6 if unit == "ms" else ratio
+            rows.append(["`%s`" % call, font, "%g %s" % (most, unit), "%.2f %s" % (measured, unit),
+                         "reached" if measured <= most else "not reached"])
+    return ["call", "font", "at most", "measured", ""], rows
+
+
+def text(heads, rows):
+    """the table in Markdown, with columns that can be read as they stand"""
+    widths = [max(len(line[k]) for line in [heads, *rows]) for k in range(len(heads))]
+    numbers = [all(re.fullmatch(r"([\d.,]+( .*)?)?", cell) for cell in column) for column in zip(*rows)]
+
+    def line(cells, fill=" "):
+        return "| %s |" % " | ".join(cell.rjust(width, fill) if right else cell.ljust(width, fill)
+                                     for cell, width, right in zip(cells, widths, numbers))
+    rule = ["-" * (width - 1) + (":" if right else "-") for width, right in zip(widths, numbers)]
+    return "\n".join([line(heads), line(rule), *map(line, rows)])
