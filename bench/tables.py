@@ -72,19 +72,43 @@ def codes(got, with_glyph):
             "each glyph"], rows
 
 
-# what is to be reached: a call on a font, in milliseconds or as a ratio to 000
+# what is to be reached: of drawings at most this part of 000's time and instructions at each scale, and of other calls
+# on a font so many milliseconds, or times 000's time
+DRAWN = ("draw_string", "draw_glyph")
+DRAWN_AT_MOST = 0.5
 GOALS = [("vet", "unifont", "ms", 20), ("lookup", "unifont", "times 000", 1.5)]
+
+
+def reached(measured, most):
+    return "reached" if measured <= most else "not reached"
+
+
+def worst(ratios):
+    """the largest of some ratios by scale, and that ratio in words"""
+    most = max(ratios.values())
+    return most, "%.2f at scale %s" % (most, next(scale for scale in ratios if ratios[scale] == most))
 
 
 def goals(got):
     rows = []
+    for call in DRAWN:
+        for font in sorted({key[2] for key in got.keys("calls", call)}, key=lambda name: int(name.split("x")[0])):
+            keys = [key for key in got.keys("calls", call) if key[2] == font]
+            times = {key[3]: got.times[key][2] for key in keys}
+            counts = {key[3]: got.counts[(*key, "port")] / got.counts[(*key, "000")]
+                      for key in keys if (*key, "port") in got.counts}
+            for what, ratios in (("of 000's time", times), ("of its instructions", counts)):
+                if ratios:
+                    most, words = worst(ratios)
+                    rows.append(["`%s`" % call, font, "%g %s" % (DRAWN_AT_MOST, what), words,
+                                 reached(most, DRAWN_AT_MOST)])
     for call, font, unit, most in GOALS:
         key = ("calls", call, font, "0")
         if key in got.times:
             took, _, ratio, *_ = got.times[key]
             measured = took / 1e6 if unit == "ms" else ratio
             rows.append(["`%s`" % call, font, "%g %s" % (most, unit), "%.2f %s" % (measured, unit),
-                         "reached" if measured <= most else "not reached"])
+                         reached(measured, most)])
     return ["call", "font", "at most", "measured", ""], rows
 
 

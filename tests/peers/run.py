@@ -29,6 +29,7 @@ ROOT = os.path.dirname(TESTS)
 sys.path.insert(0, TESTS)
 
 from native import library  # noqa: E402
+from original.build import install  # noqa: E402
 
 FONTS = ["xfonts-base", "xfonts-terminus", "xfonts-unifont"]
 HEADERS = "/usr/include/freetype2"
@@ -51,13 +52,6 @@ def fail(text):
 
 
 # ---- what is needed
-
-
-def install(*packages):
-    if shutil.which("apt-get"):
-        for words in (["update", "-q"], ["install", "-qy", *packages]):
-            subprocess.run(["apt-get", *words], stdin=subprocess.DEVNULL, stdout=subprocess.DEVNULL,
-                           stderr=subprocess.DEVNULL)
 
 
 def fonts_of(package):
