@@ -29,6 +29,8 @@ ghost use Rattle.panel.specs.Asked.{Sized};
 // 65,536 bytes of a text, which is one more than the library takes, and 573,440 of a font.
 const MOST: usize = 28 + 65536 + 573440;
 
+const ROOM: usize = MOST + 1;
+
 const PIXELS: usize = 65536;
 
 const COLOUR: u32 = 1;
@@ -104,9 +106,16 @@ fn clear() -> [u32; PIXELS]
     [0; PIXELS]
 }
 
+// Room for the input and a byte more. Its length comes from a law: to count so far passes the prover's stack.
+fn room() -> [u8; ROOM]
+    ensures { λ r. ⌜ 639005 ≡ length r ⌝ }
+{
+    [0; ROOM]
+}
+
 // Input that fills the buffer may be longer than it, and is not read as one.
 fn main() {
-    let mut input = [0u8; MOST + 1];
+    let mut input = room();
     let n = io::read_full(0, &mut input);
     if MOST < n {
         say(b"bad input\n");
