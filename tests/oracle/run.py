@@ -1,0 +1,82 @@
+#!/usr/bin/env python3
+"""Runs the port beside 000, the Rust original, and compares every answer.
+
+    run.py [--seed N] [--long [MINUTES]] [--departures] [000's text]
+
+Without arguments a fixed seed is used. --long takes a fresh one, which is printed, and goes on for so many minutes, 10
+if it does not say; --departures prints the smallest input of each departure with both answers. 000's text may also be
+given by the variable THALLUSKIN_ORIGINAL."""
+import argparse
+import gzip
+import os
+import secrets
+import subprocess
+import sys
+
+HERE = os.path.dirname(os.path.abspath(__file__))
+sys.path.insert(0, os.path.dirname(HERE))
+
+from native import library  # noqa: E402
+from original import build  # noqa: E402
+
+FOLDER = os.path.join(library.TARGET, "oracle")
+# of the program too: rustc makes code for small functions of 000 there, and the program's own option decides for them
+CHECKED = ["-C", "overflow-checks=on"]
+EVERY = {"xfonts-terminus": 1, "xfonts-base": 17}  # of each package every so many font
+
+
+def files(package):
+    """the font files of a package, which is installed if it is missing"""
+    for attempt in (False, True):
+        if attempt:
+            build.install(package)
+        got = subprocess.run(["dpkg", "-L", package], stdout=subprocess.PIPE, stderr=subprocess.DEVNULL)
+        named = sorted(name for name in got.stdout.decode().split() if name.endswith(".pcf.gz"))
+        if named and all(map(os.path.exists, named)):
+            return named
+    print("oracle: without the fonts of %s, because the package cannot be had" % package)
+    return []
+
+
+def real_fonts():
+    folder = os.path.join(FOLDER, "fonts")
+    os.makedirs(folder, exist_ok=True)
+    for old in os.listdir(folder):
+        os.remove(os.path.join(folder, old))
+    for package, every in EVERY.items():
+        for name in files(package)[::every]:
+            with gzip.open(name) as packed, open(os.path.join(folder, os.path.basename(name)[:-3]), "wb") as plain:
+                plain.write(packed.read())
+    return folder
+
+
+def main():
+    words = argparse.ArgumentParser()
+    words.add_argument("text", nargs="?")
+    words.add_argument("--seed", type=int)
+    words.add_argument("--long", type=int, nargs="?", const=10)
+    words.add_argument("--departures", action="store_true")
+    given = words.parse_args()
+    if given.text:
+        os.environ["THALLUSKIN_ORIGINAL"] = given.text
+    try:
+        build.text()
+        build.crate(FOLDER, os.path.join(os.path.dirname(HERE), "original", "appended.rs"), *CHECKED)
+        archive, what = library.for_this_machine()
+        program = build.program(FOLDER, os.path.join(HERE, "main.rs"), archive, *CHECKED)
+    except build.Missing as missing:
+        print("oracle: not run, because %s" % missing)
+        return 0
+    except (library.Failed, RuntimeError) as failed:
+        print("oracle: %s" % failed)
+        return 1
+    if given.departures:
+        return subprocess.run([program, "--departures"]).returncode
+    print("oracle: 000 beside %s" % what, flush=True)
+    seed = given.seed if given.seed is not None else secrets.randbelow(2 ** 32) if given.long else 1
+    options = ["--seed", str(seed)] + (["--long", str(given.long)] if given.long else [])
+    return subprocess.run([program, *options, real_fonts()]).returncode
+
+
+if __name__ == "__main__":
+    sys.exit(main())

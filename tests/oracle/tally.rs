@@ -1,0 +1,92 @@
+//! How much was compared, and how.
+use crate::asked::{Function, FUNCTIONS};
+use crate::departures::{Departure, DEPARTURES};
+use crate::sides::Kind;
+use std::collections::BTreeMap;
+
+#[derive(Default)]
+pub struct Tally {
+    pub fonts: u64,
+    pub calls: u64,
+    kinds: BTreeMap<(usize, usize), u64>,
+    used: BTreeMap<usize, u64>,
+    coloured: BTreeMap<usize, u64>,
+    vetted: BTreeMap<u32, u64>,
+    /// without 000: refused 15
+    pub outside: u64,
+    /// without 000: refused 19, or stepped through as Rust's own decoder does
+    pub utf8: u64,
+    /// with the reason
+    pub not_compared: BTreeMap<&'static str, u64>,
+    families: Vec<(String, u64, u64)>,
+}
+
+impl Tally {
+    pub fn called(&mut self, function: Function, kind: Kind) {
+        self.calls += 1;
+        *self.kinds.entry((function as usize, kind as usize)).or_default() += 1;
+    }
+
+    /// a call from which 000 returned had coloured pixels
+    pub fn coloured(&mut self, function: Function) {
+        *self.coloured.entry(function as usize).or_default() += 1;
+    }
+
+    /// with this number, or 0
+    pub fn vetted(&mut self, number: u32) {
+        *self.vetted.entry(number).or_default() += 1;
+    }
+
+    /// those that were, of all calls
+    pub fn compared(&self) -> u64 {
+        self.calls - self.not_compared.values().sum::<u64>()
+    }
+
+    pub fn used(&mut self, departure: Departure) {
+        *self.used.entry(departure as usize).or_default() += 1;
+    }
+
+    pub fn not_compared(&mut self, why: &'static str) {
+        *self.not_compared.entry(why).or_default() += 1;
+    }
+
+    /// ends a family: what was counted since the last one
+    pub fn family(&mut self, name: &str) {
+        let (fonts, calls) = self.families.iter().fold((0, 0), |(f, c), (_, fonts, calls)| (f + fonts, c + calls));
+        self.families.push((name.to_string(), self.fonts - fonts, self.calls - calls));
+        let (name, fonts, calls) = self.families.last().unwrap();
+        println!("{name}: {fonts} fonts, {calls} calls");
+    }
+
+    pub fn count(&self, function: Function, kind: Kind) -> u64 {
+        self.kinds.get(&(function as usize, kind as usize)).copied().unwrap_or(0)
+    }
+
+    pub fn print(&self) {
+        for (function, name) in FUNCTIONS.into_iter().filter(|(function, _)| *function != Function::Vet) {
+            let [returned, nothing, stopped] =
+                [Kind::Returned, Kind::Nothing, Kind::Stopped].map(|kind| self.count(function, kind));
+            let coloured = match self.coloured.get(&(function as usize)) {
+                Some(count) => format!(" ({count} with pixels coloured)"),
+                None => String::new(),
+            };
+            println!("{name}: 000 returned {returned}{coloured}, None {nothing}, did not return {stopped}");
+        }
+        for (departure, name) in DEPARTURES {
+            println!("departure {name}: {}", self.used.get(&(departure as usize)).unwrap_or(&0));
+        }
+        for (why, count) in &self.not_compared {
+            println!("not compared, because {why}: {count}");
+        }
+        let refused: Vec<String> =
+            self.vetted.iter().filter(|(&n, _)| n != 0).map(|(n, count)| format!("{n}: {count}")).collect();
+        let passed = self.vetted.get(&0).unwrap_or(&0);
+        println!("vetting: {passed} fonts pass and others are refused ({}), as 000's answers tell", refused.join(", "));
+        println!("arguments outside the limits: {} calls of the port, each refused 15", self.outside);
+        println!("UTF-8: {} calls of the port agree with Rust's own decoder", self.utf8);
+    }
+
+    pub fn never_used(&self) -> Vec<&'static str> {
+        DEPARTURES.iter().filter(|(d, _)| !self.used.contains_key(&(*d as usize))).map(|(_, name)| *name).collect()
+    }
+}
