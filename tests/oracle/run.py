@@ -50,6 +50,17 @@ def real_fonts():
     return folder
 
 
+def departures(program):
+    """the smallest inputs with both answers, as a table"""
+    return subprocess.run([program, "--departures"], stdout=subprocess.PIPE, check=True).stdout.decode()
+
+
+def table_of_page():
+    """the one in docs/DIFFERENCES.md"""
+    with open(os.path.join(library.ROOT, "docs", "DIFFERENCES.md"), encoding="utf-8") as page:
+        return page.read().split("<!-- departures -->\n")[1].split("<!-- end of departures -->")[0]
+
+
 def main():
     words = argparse.ArgumentParser()
     words.add_argument("text", nargs="?")
@@ -71,7 +82,11 @@ def main():
         print("oracle: %s" % failed)
         return 1
     if given.departures:
-        return subprocess.run([program, "--departures"]).returncode
+        print(departures(program), end="")
+        return 0
+    if table_of_page() != departures(program):
+        print("oracle: docs/DIFFERENCES.md has another table than --departures prints")
+        return 1
     print("oracle: 000 beside %s" % what, flush=True)
     seed = given.seed if given.seed is not None else secrets.randbelow(2 ** 32) if given.long else 1
     options = ["--seed", str(seed)] + (["--long", str(given.long)] if given.long else [])

@@ -12,7 +12,7 @@ import subprocess
 ROOT = os.path.dirname(os.path.dirname(os.path.dirname(os.path.abspath(__file__))))
 BESIDE = os.path.join(os.path.dirname(ROOT), "shared", "docs", "src", "crates", "gfx", "src", "format", "pcf.rs")
 BYTEMUCK = "/usr/share/cargo/registry/bytemuck-1.12.1/src/lib.rs"
-OLDEST = (1, 77)  # the first rustc that has offset_of!, which 000 uses
+OLDEST = (1, 80)  # the first rustc that knows size_of, which 000 uses, without an import
 
 
 class Missing(Exception):
