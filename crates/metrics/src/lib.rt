@@ -46,19 +46,27 @@ fn measured_at(
     }
 }
 
-// The metrics of a glyph in this table, or 10. Does not test the record: bytes past the end read as 0.
-fn metrics_in(s: &[u8], m: MetricsData, g: GlyphIndex) -> Measured
-    ensures { λ r. ⌜ r ≡ metricsOf (now (s .entry)) m (g .0) ⌝ }
+// The metrics of a glyph in the table of these numbers, or 10. Does not test the record: bytes past the
+// end read as 0.
+fn metrics_in(
+    s: &[u8],
+    big: bool,
+    compressed: bool,
+    count: u32,
+    records: usize,
+    g: GlyphIndex,
+) -> Measured
+    ensures { λ r. ⌜ r ≡ metricsOf (now (s .entry)) (record { big = big; compressed = compressed; count = count; records = records }) (g .0) ⌝ }
 {
     let i = g.0 as u32;
-    if m.count <= i {
+    if count <= i {
         return Measured::Refused(Refusal {
             number: 10,
             place: 0,
         });
     }
-    let offset = metric_bytes(m.compressed) * (i as usize);
-    Measured::Metrics(measured_at(s, m.records, offset, m.compressed, m.big))
+    let offset = metric_bytes(compressed) * (i as usize);
+    Measured::Metrics(measured_at(s, records, offset, compressed, big))
 }
 
 // A compressed record that lies in the bytes.
@@ -94,7 +102,7 @@ pub fn metrics_of(s: &[u8], m: MetricsData, g: GlyphIndex) -> Measured
             }
         }
     }
-    metrics_in(s, m, g)
+    metrics_in(s, m.big, m.compressed, m.count, m.records, g)
 }
 
 // A glyph's metrics, whatever they are: 11 is for those who place it. Refused, both with place 0: 6
@@ -104,7 +112,8 @@ pub fn get_metrics(bytes: &[u8], rec: Record, glyph: GlyphIndex) -> Measured
     ensures { λ r. ⌜ r ≡ getMetrics (now (bytes .entry)) rec (glyph .0) ⌝ }
 {
     if record_fits(bytes.len(), rec) {
-        metrics_in(bytes, rec.metrics, glyph)
+        let m = rec.metrics;
+        metrics_in(bytes, m.big, m.compressed, m.count, m.records, glyph)
     } else {
         Measured::Refused(Refusal {
             number: 6,

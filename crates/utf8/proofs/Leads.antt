@@ -4,6 +4,7 @@ use mathlib.Core.Path.{_≡_, refl, sym, subst}
 use mathlib.Core.Bool.{Bool, true, false, not, _&&_, _||_}
 use mathlib.Core.Logic.{⊎-elim}
 use mathlib.Core.List.{List, [], _∷_}
+use native.Mathlib.Omega.{arith}
 use native.Mathlib.Nat.{eq-or-lt-of-le, le-of-suc-le-suc, not-suc-le-zero}
 use lib.Dec.{T, eqb, leb, eqb→eq, leb→le}
 use borrow.Author.Tests.{le-leb, lt-leb}
@@ -83,3 +84,8 @@ lead-bounds b = by (leadOf b) (find-passes bounded table b tt tt)
     by : (l : Lead) → T (bounded l) → (l .size ≤ 4) × (2 ≤ l .size → 1 ≤ l .low)
     by l t =
         (leb→le (l .size) 4 (first (leb (l .size) 4) (leb (l .size) 1 || leb 1 (l .low)) t), second-of (l .size) (l .low) (second (leb (l .size) 4) (leb (l .size) 1 || leb 1 (l .low)) t))
+
+-- the line of every ASCII byte
+pub ascii : (b : ℕ) → b < 0x80 → record { size = 1; low = 0; high = 0xFF } ≡ leadOf b
+unfolding every in-range same leadOf find table
+ascii b h = arm 0x00 0x7F (record { size = 1; low = 0; high = 0xFF }) tt b (omega arith) (omega arith) (omega arith)

@@ -99,10 +99,8 @@ fn longer(i: usize, n: u8, b1: u8, b2: u8, b3: u8, b4: u8) -> Step
     Step::Char(CharCode(code), i + 4)
 }
 
-// The character at byte i of a text and the place after it, or the end for an i at or past the text's
-// length. Refused: 19 with place i where the bytes from i on begin with no well-formed sequence of
-// Unicode's table.
-pub fn step_at(text: &[u8], i: usize) -> Step
+// One step, by the table's line for the first byte.
+pub(crate) fn any_step(text: &[u8], i: usize) -> Step
     ensures { λ r. ⌜ r ≡ stepAt (now (text .entry)) i ⌝ }
 {
     if text.len() <= i {
@@ -124,4 +122,20 @@ pub fn step_at(text: &[u8], i: usize) -> Step
         return longer(i, n, b1, b2, byte_at(text, i, 2), byte_at(text, i, 3));
     }
     ill_formed(i)
+}
+
+// The character at byte i of a text and the place after it, or the end for an i at or past the text's
+// length. Refused: 19 with place i where the bytes from i on begin with no well-formed sequence of
+// Unicode's table.
+pub fn step_at(text: &[u8], i: usize) -> Step
+    ensures { λ r. ⌜ r ≡ stepAt (now (text .entry)) i ⌝ }
+{
+    // Most texts are ASCII, and this is short enough to be compiled into the walk over one.
+    if i < text.len() {
+        let b = text[i];
+        if b < 0x80 {
+            return Step::Char(CharCode(b as u32), i + 1);
+        }
+    }
+    any_step(text, i)
 }

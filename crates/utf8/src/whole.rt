@@ -1,7 +1,7 @@
 // A whole text.
 use crate::Checked;
 use crate::Step;
-use crate::stepping::step_at;
+use crate::stepping::any_step;
 ghost use mathlib.Core.Path.{_≡_};
 ghost use Rattle.utf8.specs.Decode.{decoded, checked};
 
@@ -12,7 +12,7 @@ pub fn check(text: &[u8]) -> Checked
 {
     let mut i: usize = 0;
     loop {
-        let here = step_at(text, i);
+        let here = any_step(text, i);
         match here {
             Step::Char(code, next) => {
                 i = next;

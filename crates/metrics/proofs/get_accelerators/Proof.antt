@@ -3,16 +3,16 @@ use borrow.Author.Needs.{needs}
 use Rattle.metrics.proofs.get_accelerators.Statement.{statement}
 use Rattle.metrics.proofs.get_accelerators.Tie as tie
 
--- src/lib.rt:121:8
+-- src/lib.rt:130:8
 record-fits-requires : tie.Need-record-fits-requires
 record-fits-requires c κs = search needs
 
--- src/lib.rt:118:1
+-- src/lib.rt:127:1
 returns : tie.Need-returns
 unfolding getAccelerators
 returns c = rw (← c .before .before .record-fits .ensures, c .before .if1 .taken)
 
--- src/lib.rt:118:1
+-- src/lib.rt:127:1
 returns-2 : tie.Need-returns-2
 unfolding getAccelerators
 returns-2 c = rw (← c .before .record-fits .ensures, c .if1 .left)

@@ -1,7 +1,7 @@
 use mathlib.Core.Path.{_∙_}
 use native.Mathlib.Omega.{arith}
 use Rattle.utf8.specs.Table.{leadOf, find, table}
-use Rattle.utf8.proofs.Leads.{arm, every, in-range, same}
+use Rattle.utf8.proofs.Leads.{arm, ascii, every, in-range, same}
 use borrow.Author.Needs.{needs}
 use Rattle.utf8.proofs.stepping.lead_of.Statement.{statement}
 use Rattle.utf8.proofs.stepping.lead_of.Tie as tie
@@ -12,8 +12,7 @@ line-requires c κs = search needs
 
 -- src/stepping.rt:24:9
 returns : tie.Need-returns
-unfolding every in-range same leadOf find table
-returns c = c .line .ensures ∙ arm 0x00 0x7F (record { size = 1; low = 0; high = 0xFF }) tt (c .before .before .args .b) (omega arith) (omega arith) (omega arith)
+returns c = c .line .ensures ∙ ascii (c .before .before .args .b) (omega arith)
 
 -- src/stepping.rt:27:9
 line-requires-2 : tie.Need-line-requires-2

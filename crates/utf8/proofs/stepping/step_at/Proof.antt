@@ -1,91 +1,36 @@
-use mathlib.Core.Path.{refl, sym, _∙_}
-use native.Mathlib.Omega.{arith}
-use borrow.Author.Tests.{eq-eqb, ne-eqb, lt-ltb, le-ltb}
+use borrow.Author.Tests.{lt-ltb}
+use Rattle.reads.specs.Num.{byteAt}
 use Rattle.utf8.specs.Step.{stepAt}
-use Rattle.utf8.proofs.Steps.{step-longer, step-second}
+use Rattle.utf8.proofs.Leads.{ascii}
 use borrow.Author.Needs.{needs}
 use Rattle.utf8.proofs.stepping.step_at.Statement.{statement}
 use Rattle.utf8.proofs.stepping.step_at.Tie as tie
 
--- src/stepping.rt:109:9
+-- src/stepping.rt:135:17
+shared-slice-read-b : tie.Need-shared-slice-read-b
+shared-slice-read-b c = search needs
+
+-- src/stepping.rt:137:40
+cast-t9 : tie.Need-cast-t9
+cast-t9 c = search needs
+
+-- src/stepping.rt:137:51
+add-t11 : tie.Need-add-t11
+add-t11 c = search needs
+
+-- src/stepping.rt:137:13
 returns : tie.Need-returns
 unfolding stepAt
-returns c = simp (le-ltb _ _ (c .if1 .taken))
+returns c = simp (lt-ltb _ _ (c .before .before .if1 .taken), ← ascii (byteAt (c .before .before .before .before .args .text .now) (c .before .before .before .before .args .i)) (c .if2 .taken))
 
--- src/stepping.rt:111:14
-shared-slice-read-b1 : tie.Need-shared-slice-read-b1
-shared-slice-read-b1 c = search needs
+-- src/stepping.rt:140:5
+any-step-requires : tie.Need-any-step-requires
+any-step-requires c κs = search needs
 
--- src/stepping.rt:112:9
-lead-of-requires : tie.Need-lead-of-requires
-lead-of-requires c κs = search needs
-
--- src/stepping.rt:117:9
-ill-formed-requires : tie.Need-ill-formed-requires
-ill-formed-requires c κs = search needs
-
--- src/stepping.rt:117:9
+-- src/stepping.rt:130:1
 returns-2 : tie.Need-returns-2
-unfolding stepAt
-returns-2 c = simp (c .ill-formed .ensures, lt-ltb _ _ (c .before .before .before .before .if1 .left), ← c .before .before .lead-of .ensures, eq-eqb _ _ (c .before .if2 .taken))
-
--- src/stepping.rt:120:36
-cast-t13 : tie.Need-cast-t13
-cast-t13 c = omega (arith, c .before .before .before .shared-slice-known2 .given (c .before .before .before .before .before .before .args .i))
-
--- src/stepping.rt:120:48
-add-t15 : tie.Need-add-t15
-add-t15 c = search needs
-
--- src/stepping.rt:120:9
-returns-3 : tie.Need-returns-3
-unfolding stepAt
-returns-3 c = simp (lt-ltb _ _ (c .before .before .before .before .if1 .left), ← c .before .before .lead-of .ensures, ne-eqb _ _ (c .before .if2 .left), eq-eqb _ _ (c .if3 .taken))
-
--- src/stepping.rt:122:9
-byte-at-requires : tie.Need-byte-at-requires
-byte-at-requires c κs = search needs
-
--- src/stepping.rt:124:37
-byte-at-requires-2 : tie.Need-byte-at-requires-2
-byte-at-requires-2 c κs = search needs
-
--- src/stepping.rt:124:58
-byte-at-requires-3 : tie.Need-byte-at-requires-3
-byte-at-requires-3 c κs = search needs
-
--- src/stepping.rt:124:9
-longer-requires : tie.Need-longer-requires
-longer-requires c κs = search needs
-
--- src/stepping.rt:124:9
-returns-4 : tie.Need-returns-4
-returns-4 c = c .longer .ensures ∙ sym (step-longer (c .before .before .before .before .before .before .before .before .before .before .before .args .text .now) (c .before .before .before .before .before .before .before .before .before .before .before .args .i) _ _ _ (c .before .before .before .before .before .before .before .before .before .if1 .left) refl (c .before .before .before .before .before .before .before .lead-of .ensures) (c .before .before .before .before .before .before .if2 .left) (c .before .before .before .before .before .if3 .left) (c .before .before .before .before .byte-at .ensures) _ _ (c .before .before .byte-at2 .ensures) (c .before .byte-at3 .ensures) (c .before .before .before .if4 .taken))
-
--- src/stepping.rt:126:5
-ill-formed-requires-2 : tie.Need-ill-formed-requires-2
-ill-formed-requires-2 c κs = search needs
-
--- src/stepping.rt:105:1
-returns-5 : tie.Need-returns-5
-returns-5 c = c .ill-formed2 .ensures ∙ sym (step-second (c .before .before .before .before .before .before .before .before .before .args .text .now) (c .before .before .before .before .before .before .before .before .before .args .i) _ _ _ (c .before .before .before .before .before .before .before .if1 .left) refl (c .before .before .before .before .before .lead-of .ensures) (c .before .before .before .before .if2 .left) (c .before .before .before .if3 .left) (c .before .before .byte-at .ensures) (c .before .if4 .left))
+returns-2 c = search needs
 
 pub step-at-spec : {M : Type 1} → statement M
 step-at-spec =
-    tie.close
-    (tie.spec
-    returns
-    shared-slice-read-b1
-    lead-of-requires
-    ill-formed-requires
-    returns-2
-    cast-t13
-    add-t15
-    returns-3
-    byte-at-requires
-    byte-at-requires-2
-    byte-at-requires-3
-    longer-requires
-    returns-4
-    ill-formed-requires-2
-    returns-5)
+    tie.close (tie.spec shared-slice-read-b cast-t9 add-t11 returns any-step-requires returns-2)

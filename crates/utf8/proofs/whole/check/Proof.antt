@@ -20,8 +20,8 @@ loop-holds : tie.Need-loop-holds Inv-loop μ-loop
 loop-holds c = answer-all (c .before .args .text .now)
 
 -- src/whole.rt:15:13
-step-at-requires : tie.Need-step-at-requires Inv-loop μ-loop
-step-at-requires c κs = search needs
+any-step-requires : tie.Need-any-step-requires Inv-loop μ-loop
+any-step-requires c κs = search needs
 
 -- src/whole.rt:17:24
 enum-known-here : tie.Need-enum-known-here Inv-loop μ-loop
@@ -29,11 +29,11 @@ enum-known-here c = search needs
 
 -- src/whole.rt:14:5
 loop-less : tie.Need-loop-less Inv-loop μ-loop
-loop-less c = omega (arith, step-within (c .before .before .before .before .before .before .args .text .now) (c .before .before .before .before .loop .i) (c .before .here .given .0 .0) (c .before .here .given .0 .1 .0) (sym (c .before .before .before .step-at .ensures) ∙ c .before .here .given .1))
+loop-less c = omega (arith, step-within (c .before .before .before .before .before .before .args .text .now) (c .before .before .before .before .loop .i) (c .before .here .given .0 .0) (c .before .here .given .0 .1 .0) (sym (c .before .before .before .any-step .ensures) ∙ c .before .here .given .1))
 
 -- src/whole.rt:14:5
 loop-again : tie.Need-loop-again Inv-loop μ-loop
-loop-again c = answer-char (c .before .before .before .before .before .before .args .text .now) (c .before .before .before .before .loop .i) (checked (decoded (c .before .before .before .before .before .before .args .text .now))) (c .before .here .given .0 .0) (c .before .here .given .0 .1 .0) (c .before .before .before .before .loop .inv) (sym (c .before .before .before .step-at .ensures) ∙ c .before .here .given .1)
+loop-again c = answer-char (c .before .before .before .before .before .before .args .text .now) (c .before .before .before .before .loop .i) (checked (decoded (c .before .before .before .before .before .before .args .text .now))) (c .before .here .given .0 .0) (c .before .here .given .0 .1 .0) (c .before .before .before .before .loop .inv) (sym (c .before .before .before .any-step .ensures) ∙ c .before .here .given .1)
 
 -- src/whole.rt:21:17
 enum-told : tie.Need-enum-told Inv-loop μ-loop
@@ -41,7 +41,7 @@ enum-told c = search needs
 
 -- src/whole.rt:21:17
 returns : tie.Need-returns Inv-loop μ-loop
-returns c = sym (answer-end (c .before .before .before .before .before .args .text .now) (c .before .before .before .loop .i) (checked (decoded (c .before .before .before .before .before .args .text .now))) (c .before .before .before .loop .inv) (sym (c .before .before .step-at .ensures) ∙ c .enum-told .given .1))
+returns c = sym (answer-end (c .before .before .before .before .before .args .text .now) (c .before .before .before .loop .i) (checked (decoded (c .before .before .before .before .before .args .text .now))) (c .before .before .before .loop .inv) (sym (c .before .before .any-step .ensures) ∙ c .enum-told .given .1))
 
 -- src/whole.rt:23:27
 enum-known-here-2 : tie.Need-enum-known-here-2 Inv-loop μ-loop
@@ -49,7 +49,7 @@ enum-known-here-2 c = search needs
 
 -- src/whole.rt:24:17
 returns-2 : tie.Need-returns-2 Inv-loop μ-loop
-returns-2 c = sym (answer-bad (c .before .before .before .before .before .before .args .text .now) (c .before .before .before .before .loop .i) (checked (decoded (c .before .before .before .before .before .before .args .text .now))) (c .before .here2 .given .0 .0) (c .before .before .before .before .loop .inv) (sym (c .before .before .before .step-at .ensures) ∙ c .before .here2 .given .1))
+returns-2 c = sym (answer-bad (c .before .before .before .before .before .before .args .text .now) (c .before .before .before .before .loop .i) (checked (decoded (c .before .before .before .before .before .before .args .text .now))) (c .before .here2 .given .0 .0) (c .before .before .before .before .loop .inv) (sym (c .before .before .before .any-step .ensures) ∙ c .before .here2 .given .1))
 
 pub check-spec : {M : Type 1} → statement M
 check-spec =
@@ -58,7 +58,7 @@ check-spec =
     Inv-loop
     μ-loop
     loop-holds
-    step-at-requires
+    any-step-requires
     enum-known-here
     loop-less
     loop-again
