@@ -1,0 +1,163 @@
+"""Whatever docs/PROMISES.md names in backticks exists in the sources, and what has to stand there does.
+
+Names belong to what stands before them in the same cell or paragraph: after `crate/File: name` a further name is of
+that file too, after `crate::name` of that crate. A name that fits no kind is a fault."""
+import collections
+import re
+
+from documents import code, pages
+
+# names that are neither of the sources nor files
+WORDS = {
+    "crate/File: name": "how a definition is written",
+    "crates/crate/specs/File.antt": "where it stands",
+    "crate/proofs/File.antt": "how a file of theorems is written",
+    "crates/crate/proofs/File.antt": "where it stands",
+    "crate::name": "how a function or a type is written",
+    "crates/crate/src": "where it stands",
+    "crate/edit": "how a must-fail edit is written",
+    "crates/crate/must-fail/edit.edit": "where it stands",
+    "theorem": "what it is followed by",
+    "rt ci": "a command of the kit",
+    "memcpy": "a function of C",
+    "memset": "a function of C",
+    "bool": "a type of C and Rust",
+    "requires": "a word of Rattle",
+    "refusal": "a field of each answer in C",
+    "vetting": "an argument",
+    "Refused": "a case of the answers' enums",
+    "..Leaves": "how definitions are called that say what is left in a buffer",
+    "refusal n 0": "a term in definitions",
+}
+
+QUOTES = "Document 01"  # the column whose words are another document's
+# columns in which each cell names something, or else points to where it is named
+NAMING = ("Function", "Answer", "Its definition", "Here", "Edit", "Refused in")
+ELSEWHERE = re.compile(r"\w+ case|below|the .* under \".*\"")
+FOLDERS = "crates|tests|docs|include|bindings|examples|meter-font|bench"
+PATH = re.compile(rf"(?<![\w/.`])(?:{FOLDERS})/[\w./*-]*\w")
+
+# where a name without a crate is looked for: what it would be, the names there, and the crate
+Near = collections.namedtuple("Near", "kind names crate")
+
+
+class Reader:
+    """Goes through a page's names, counts them by kind and keeps the faults."""
+
+    def __init__(self, page):
+        self.page, self.counts, self.faults, self.used = page, collections.Counter(), [], set()
+        self.edits = collections.Counter()
+
+    def fault(self, line, text):
+        self.faults.append(f"{self.page}:{line}: {text}")
+
+    def read(self):
+        for piece in pages.pieces(self.page):
+            if piece.column == QUOTES:
+                self.counts["quoted words"] += len(list(pages.names(piece.text)))
+                continue
+            for m in PATH.finditer(re.sub(r"`[^`]*`", lambda m: "`" * len(m[0]), piece.text)):
+                self.found(piece.line, m[0], "files", code.exists(m[0]))
+            names = "`" in piece.text or PATH.search(piece.text) or ELSEWHERE.fullmatch(piece.text)
+            if piece.column in NAMING and not names:
+                self.fault(piece.line, f'nothing is named under "{piece.column}"')
+            near = None
+            for below, name in pages.names(piece.text):
+                near = self.name(piece, piece.line + below, name, near)
+        self.faults += [f"tests/documents: no page has the word `{word}`" for word in sorted(set(WORDS) - self.used)]
+
+    def found(self, line, name, kind, there):
+        self.counts[kind] += 1
+        if not there:
+            self.fault(line, f"no such {kind[:-1]}: {name}")
+
+    def name(self, piece, line, name, near):
+        """looks a name up, and says where the next one is looked for"""
+        if name in WORDS:
+            self.used.add(name)
+            self.counts["listed words"] += 1
+            return near
+        m = re.fullmatch(r"(\w+)/([A-Z]\w*)(?:: (\S+))?", name)
+        if m:
+            return self.in_file(line, name, "definitions", m[1], code.definitions(m[1], m[2]), m[3])
+        m = re.fullmatch(r"(\w+)/proofs/([\w/]+)\.antt", name)
+        if m:
+            return self.in_file(line, name, "theorems", m[1], code.theorems(m[1], m[2]), None)
+        m = re.fullmatch(r"([A-Z]\w*)\.antt", name)
+        if m and near:
+            return self.in_file(line, name, "theorems", near.crate, code.theorems(near.crate, m[1]), None)
+        m = re.fullmatch(r"(\w+)::(\w+)", name)
+        if m:
+            return self.in_crate(line, name, m[1], m[2])
+        m = re.fullmatch(r"(\w+)/\w+", name)
+        if m and m[1] in code.crates():
+            self.found(line, name, "edits", name in code.edits())
+            self.edits[name] += piece.column == "Edit"
+        elif "/" in name:
+            self.found(line, name, "files", code.exists(name))
+        elif piece.column == "Refused in":
+            self.refusing(piece, line, name)
+        else:
+            self.bare(line, name, near)
+        return near
+
+    def in_file(self, line, name, kind, crate, names, one):
+        self.found(line, name, "files", names is not None)
+        if one:
+            self.found(line, name, kind, one in (names or ()))
+        return Near(kind, names or set(), crate)
+
+    def in_crate(self, line, name, crate, one):
+        if crate in code.types():  # a function of a type
+            crate = next(c for c in code.crates() if crate in code.types(c))
+        names = code.functions(crate) | code.types(crate)
+        self.found(line, name, "functions" if one in code.functions(crate) else "types", one in names)
+        return Near("functions", names, crate)
+
+    def refusing(self, piece, line, name):
+        """the function or the law that refuses a row's edits, in a crate of theirs"""
+        crates = {edit.split("/")[0] for _, edit in pages.names(piece.first) if "/" in edit}
+        law = any(name in code.all_declared("proofs", crate) for crate in crates)
+        there = law or any(name in code.functions(crate) for crate in crates)
+        self.found(line, name, "theorems" if law else "functions", there)
+
+    def bare(self, line, name, near):
+        kinds = {
+            "definitions": code.all_declared("specs"),
+            "theorems": code.all_declared("proofs"),
+            "functions": code.functions(),
+            "crates": code.crates(),
+        }
+        if near and name in near.names:
+            self.found(line, name, near.kind, True)
+        elif near and "_" in name:
+            self.found(line, f"{near.crate}::{name}", "functions", name in code.functions(near.crate))
+        elif near and (near.kind == "theorems" or "-" not in name) and name not in code.crates():
+            self.fault(line, f"{name} is not where the page has it")
+        else:
+            kind = next((kind for kind, names in kinds.items() if name in names), None)
+            self.found(line, name, kind or "names", kind)
+
+
+def stands(reader):
+    """what the page has to name: every edit once, every program, every folder of tests"""
+    for edit in sorted(code.edits()):
+        if reader.edits[edit] != 1:
+            yield f"{reader.page}: the edit {edit} stands {reader.edits[edit]} times in the table of shams"
+    believed = [p.text for p in pages.pieces(reader.page) if p.section == "What a reader has to believe"]
+    told = {name for text in believed if "The programs (" in text for _, name in pages.names(text)}
+    run = "\n".join(p.text for p in pages.pieces(reader.page) if p.section == "Run")
+    for crate, on in code.crates().items():
+        if "libc" in on and code.functions(crate) and crate not in told:
+            yield f"{reader.page}: {crate} is not among the programs"
+        if code.is_program(crate) and not re.search(rf"\bcrates/{crate}\b", run):
+            yield f'{reader.page}: crates/{crate} does not stand under "Run"'
+    for folder in code.folders("tests"):
+        if not re.search(rf"\btests/{folder}\b", run):
+            yield f'{reader.page}: tests/{folder} does not stand under "Run"'
+
+
+def check(page):
+    reader = Reader(page)
+    reader.read()
+    return reader.counts, reader.faults + list(stands(reader))

@@ -1,0 +1,156 @@
+"""Refusals are told alike wherever they are told: their numbers, and for each call the order in which it tests them."""
+import re
+
+from documents import code, pages
+
+ORDER = "Refusals, in order"
+LAST, DUMPS = 20, 20  # the greatest number, and the one that the dump program alone gives
+# answers the refusal's number itself, so that its type does not show that it refuses
+NUMBERS = {("dumper", "print_dump")}
+# what "the same" means where a call is one of these
+SAME = {
+    "bitmap_check": "draw_bitmap",
+    "glyph_check": "draw_glyph",
+    "char_check": "draw_char",
+    "unpack_check": "unpack_glyph",
+    "text_check": "draw_string",
+    "char_through": "draw_char",
+    "string_through": "draw_string",
+    "thk_text_check": "thk_draw_string",
+}
+
+
+class Orders:
+    """A page's calls with their refusals, in order."""
+
+    def __init__(self, page, column):
+        self.page, self.cells, self.faults = page, {}, []
+        self.first = set()  # the calls of the first table
+        for table in pages.tables(page):
+            if table.head[0] == column and ORDER not in table.head:
+                self.faults.append(f'{page}: the table under "{table.section}" has no column "{ORDER}"')
+            elif table.head[0] == column:
+                for line, row in table.rows:
+                    self.row(line, row[0], row[table.head.index(ORDER)])
+                self.first = self.first or set(self.cells)
+
+    def row(self, line, first, cell):
+        calls, crate = [], None
+        for _, name in pages.names(first):
+            m = re.match(r"(?:(\w+)::)?(\w+)", name)
+            crate = {"Font": "font", None: "thalluskin" if m[2].startswith("thk_") else crate}.get(m[1], m[1])
+            calls.append((crate, m[2]))
+        for place, call in enumerate(calls):
+            if call in self.cells:
+                self.faults.append(f"{self.page}:{line}: {call[0]}::{call[1]} stands twice")
+            self.cells[call] = (line, cell, place, len(calls))
+
+    def named(self, name):
+        """the call that a cell means by a name: not the view's function where there is another"""
+        crate, _, name = name.rpartition("::")
+        calls = [c for c in self.cells if c[1] == name and crate in ("", c[0])]
+        return min(calls, key=lambda c: c[0] == "font", default=None)
+
+    def order(self, call, seen=()):
+        """the numbers; one that a clause tells twice counts where it tells it first"""
+        line, cell, place, many = self.cells[call]
+        numbers = []
+        for clause in cell.split(";"):
+            told = []
+            for m in re.finditer(r"(\d+) to (\d+)|\d+|the same\b|as (`[^`]+`(?:(?:, | or )`[^`]+`)*)", clause):
+                if m[1]:
+                    told += range(int(m[1]), int(m[2]) + 1)
+                elif m[0].isdigit():
+                    told += [] if int(m[0]) in told else [int(m[0])]
+                else:
+                    told += self.referred(line, call, m, place, many, seen + (call,))
+            numbers += told
+        return numbers
+
+    def referred(self, line, call, m, place, many, seen):
+        names = [SAME.get(call[1], "")] if m[3] is None else [name for _, name in pages.names(m[3])]
+        if many > 1 and len(names) == many:  # a name for each call of the row
+            names = [names[place]]
+        calls = [self.named(name) for name in names]
+        if None in calls or set(calls) & set(seen):
+            self.faults.append(f"{self.page}:{line}: refused as what? {m[0]}")
+            return []
+        return [number for other in calls for number in self.order(other, seen)]
+
+
+def header_orders():
+    """the same of the C header, from the comment before each function"""
+    orders = Orders("include/thalluskin.h", None)
+    text = code.read(orders.page)
+    for m in re.finditer(r"/\*((?:(?!\*/).)*)\*/\n\w+ (thk_\w+)\(", text, re.S):
+        told = re.sub(r"\s+(?:\* )?", " ", m[1]).rpartition("Refused ")[2]
+        told = re.sub(r"as (thk_\w+)", r"as `\1`", told).replace("as that", "the same")
+        orders.row(text[:m.start(2)].count("\n") + 1, f"`{m[2]}`", told)
+    return orders
+
+
+def compare(known, orders, calls):
+    """the calls' orders on a page against those of the other page, which knows all"""
+    for call in sorted(calls):
+        name = "::".join(call)
+        if call not in orders.cells:
+            yield f"{orders.page}: {name} is missing"
+        elif call not in known.cells:
+            yield f"{orders.page}:{orders.cells[call][0]}: {name} is not in {known.page}"
+        elif known.order(call) != orders.order(call):
+            line = orders.cells[call][0]
+            yield f"{orders.page}:{line}: {name} is refused {orders.order(call)}, in {known.page} {known.order(call)}"
+
+
+def public(known):
+    """every public function has its row, with refusals where it can refuse, and no row is of another"""
+    functions = dict(code.public())
+    for call in sorted(set(functions) | set(known.cells)):
+        name = "::".join(call)
+        if call not in functions:
+            yield f"{known.page}:{known.cells[call][0]}: {name} is no public function"
+        elif call not in known.cells:
+            yield f"{known.page}: the public function {name} is missing"
+        elif bool(known.order(call)) != (functions[call] or call in NUMBERS):
+            yield f"{known.page}:{known.cells[call][0]}: {name} can{'' if functions[call] else 'not'} refuse"
+
+
+def told_numbers(known):
+    """each place that tells refusals by number, with the numbers it has and those it has to have"""
+    every, library = list(range(1, LAST + 1)), [n for n in range(1, LAST + 1) if n != DUMPS]
+    tables = [t for t in pages.tables(pages.CALLS) if t.head[0] == "No"]
+    yield pages.CALLS, [int(row[0]) for t in tables for _, row in t.rows], every
+    rows = [row[0] for t in pages.tables(pages.PROMISES) if t.section == "Refusal numbers" for _, row in t.rows]
+    parts = [part for row in rows for part in row.split("; ")]
+    yield pages.PROMISES, [int(m[1]) for m in map(re.compile(r"(\d+) [a-z]").match, parts) if m], every
+    header = re.findall(r"^ *THK_(\w+) = (\d+)\b", code.read("include/thalluskin.h"), re.M)
+    yield "include/thalluskin.h", [int(n) for _, n in header], [0] + library
+    refusal = code.read("bindings/rust/src/refusal.rs")
+    constants = re.findall(r"^ *pub const (\w+): u32 = (\d+);", refusal, re.M)
+    yield "bindings/rust/src/refusal.rs", constants, header[1:]
+    yield "bindings/rust/src/refusal.rs, reasons", re.findall(r"Refusal::(\w+) =>", refusal), [c for c, _ in constants]
+    met = known.order(("vet", "vet")) + known.order(("text", "draw_string"))
+    meaning = re.search(r"^meaning\(\) \{(.*?)^\}", code.read("thalluskin"), re.M | re.S)[1]
+    yield "thalluskin, meaning", [int(n) for n in re.findall(r"^ *(\d\d)\) echo", meaning, re.M)], sorted(set(met))
+
+
+def differing(has, must):
+    lacking, more = [n for n in must if n not in has], [n for n in has if n not in must]
+    return f"lack {lacking} and have {more} too" if lacking or more else "stand twice or in another order"
+
+
+def check():
+    known, calls, header = Orders(pages.PROMISES, "Function"), Orders(pages.CALLS, "Call"), header_orders()
+    exported = {call for call in known.cells if call[0] == "thalluskin"}
+    faults = list(public(known))
+    faults += compare(known, calls, known.first | set(calls.cells))
+    faults += compare(known, header, exported | set(header.cells))
+    numbers = list(told_numbers(known))
+    faults += [f"{place}: refusals {differing(has, must)}" for place, has, must in numbers if has != must]
+    faults += dict.fromkeys(known.faults + calls.faults + header.faults)
+    counts = {
+        "public functions": len(known.cells),
+        "orders of refusals": sum(len(orders.cells) for orders in (known, calls, header)),
+        "lists of refusals": len(numbers),
+    }
+    return counts, faults
