@@ -1,7 +1,9 @@
 """Whatever docs/PROMISES.md names in backticks exists in the sources, and what has to stand there does.
 
 Names belong to what stands before them in the same cell or paragraph: after `crate/File: name` a further name is of
-that file too, after `crate::name` of that crate. A name that fits no kind is a fault."""
+that file too, after `crate::name` of that crate. A name that fits no kind is a fault.
+
+Of some other pages only the names with a crate or a folder are looked at, since the rest are words of many kinds."""
 import collections
 import re
 
@@ -30,7 +32,7 @@ WORDS = {
     "refusal n 0": "a term in definitions",
 }
 
-QUOTES = "Document 01"  # the column whose words are another document's
+QUOTES = ("Document 01", "000")  # columns whose words are others'
 # columns in which each cell names something, or else points to where it is named
 NAMING = ("Function", "Answer", "Its definition", "Here", "Edit", "Refused in")
 ELSEWHERE = re.compile(r"\w+ case|below|the .* under \".*\"")
@@ -42,29 +44,29 @@ Near = collections.namedtuple("Near", "kind names crate")
 
 
 class Reader:
-    """Goes through a page's names, counts them by kind and keeps the faults."""
+    """Goes through a page's names, or only through those that are written whole, counts them by kind and keeps the
+    faults."""
 
-    def __init__(self, page):
-        self.page, self.counts, self.faults, self.used = page, collections.Counter(), [], set()
-        self.edits = collections.Counter()
+    def __init__(self, page, every):
+        self.page, self.every, self.counts, self.faults = page, every, collections.Counter(), []
+        self.used, self.edits = set(), collections.Counter()
 
     def fault(self, line, text):
         self.faults.append(f"{self.page}:{line}: {text}")
 
     def read(self):
         for piece in pages.pieces(self.page):
-            if piece.column == QUOTES:
+            if piece.column in QUOTES:
                 self.counts["quoted words"] += len(list(pages.names(piece.text)))
                 continue
             for m in PATH.finditer(re.sub(r"`[^`]*`", lambda m: "`" * len(m[0]), piece.text)):
                 self.found(piece.line, m[0], "files", code.exists(m[0]))
             names = "`" in piece.text or PATH.search(piece.text) or ELSEWHERE.fullmatch(piece.text)
-            if piece.column in NAMING and not names:
+            if self.every and piece.column in NAMING and not names:
                 self.fault(piece.line, f'nothing is named under "{piece.column}"')
             near = None
             for below, name in pages.names(piece.text):
                 near = self.name(piece, piece.line + below, name, near)
-        self.faults += [f"tests/documents: no page has the word `{word}`" for word in sorted(set(WORDS) - self.used)]
 
     def found(self, line, name, kind, there):
         self.counts[kind] += 1
@@ -93,8 +95,10 @@ class Reader:
         if m and m[1] in code.crates():
             self.found(line, name, "edits", name in code.edits())
             self.edits[name] += piece.column == "Edit"
-        elif "/" in name:
+        elif PATH.fullmatch(name) or self.every and "/" in name:
             self.found(line, name, "files", code.exists(name))
+        elif not self.every:
+            self.counts["words not looked up"] += 1
         elif piece.column == "Refused in":
             self.refusing(piece, line, name)
         else:
@@ -111,7 +115,7 @@ class Reader:
         if crate in code.types():  # a function of a type
             crate = next(c for c in code.crates() if crate in code.types(c))
         names = code.functions(crate) | code.types(crate)
-        self.found(line, name, "functions" if one in code.functions(crate) else "types", one in names)
+        self.found(line, name, "types" if one[0].isupper() else "functions", one in names)
         return Near("functions", names, crate)
 
     def refusing(self, piece, line, name):
@@ -140,7 +144,9 @@ class Reader:
 
 
 def stands(reader):
-    """what the page has to name: every edit once, every program, every folder of tests"""
+    """what docs/PROMISES.md has to name: every listed word, every edit once, every program, every folder of tests"""
+    for word in sorted(set(WORDS) - reader.used):
+        yield f"{reader.page}: the listed word `{word}` is not there"
     for edit in sorted(code.edits()):
         if reader.edits[edit] != 1:
             yield f"{reader.page}: the edit {edit} stands {reader.edits[edit]} times in the table of shams"
@@ -157,7 +163,19 @@ def stands(reader):
             yield f'{reader.page}: tests/{folder} does not stand under "Run"'
 
 
-def check(page):
-    reader = Reader(page)
-    reader.read()
-    return reader.counts, reader.faults + list(stands(reader))
+def drawn():
+    """docs/ARCHITECTURE.md has each crate of crates.txt once in its table"""
+    tables = [table for table in pages.tables(pages.ARCHITECTURE) if table.head[0] == "Crate"]
+    told = [name for table in tables for _, row in table.rows for _, name in pages.names(row[0])]
+    for crate in sorted(set(told) | set(code.crates())):
+        if told.count(crate) != 1 or crate not in code.crates():
+            yield f"{pages.ARCHITECTURE}: {crate} stands {told.count(crate)} times in the table of crates"
+
+
+def check():
+    readers = [Reader(pages.PROMISES, True)]
+    readers += [Reader(page, False) for page in (pages.ARCHITECTURE, pages.DECISIONS, pages.DIFFERENCES)]
+    for reader in readers:
+        reader.read()
+    faults = [fault for reader in readers for fault in reader.faults]
+    return sum((r.counts for r in readers), collections.Counter()), faults + list(stands(readers[0])) + list(drawn())

@@ -7,8 +7,10 @@ import re
 from documents import code
 
 PROMISES = "docs/PROMISES.md"
+CALLS = "docs/CALLS.md"
 DECISIONS = "docs/DECISIONS.md"
-CALLS = "docs/CALLS.md" if code.exists("docs/CALLS.md") else "README.md"
+ARCHITECTURE = "docs/ARCHITECTURE.md"
+DIFFERENCES = "docs/DIFFERENCES.md"
 
 # a table with its heading, the names of its columns, and its rows: the line and the cells
 Table = collections.namedtuple("Table", "section head rows")

@@ -7,17 +7,6 @@ ORDER = "Refusals, in order"
 LAST, DUMPS = 20, 20  # the greatest number, and the one that the dump program alone gives
 # answers the refusal's number itself, so that its type does not show that it refuses
 NUMBERS = {("dumper", "print_dump")}
-# what "the same" means where a call is one of these
-SAME = {
-    "bitmap_check": "draw_bitmap",
-    "glyph_check": "draw_glyph",
-    "char_check": "draw_char",
-    "unpack_check": "unpack_glyph",
-    "text_check": "draw_string",
-    "char_through": "draw_char",
-    "string_through": "draw_string",
-    "thk_text_check": "thk_draw_string",
-}
 
 
 class Orders:
@@ -57,25 +46,24 @@ class Orders:
         numbers = []
         for clause in cell.split(";"):
             told = []
-            for m in re.finditer(r"(\d+) to (\d+)|\d+|the same\b|as (`[^`]+`(?:(?:, | or )`[^`]+`)*)", clause):
+            for m in re.finditer(r"(\d+) to (\d+)|\d+|as (`[^`]+`(?:, `[^`]+`)*)", clause):
                 if m[1]:
                     told += range(int(m[1]), int(m[2]) + 1)
                 elif m[0].isdigit():
                     told += [] if int(m[0]) in told else [int(m[0])]
                 else:
-                    told += self.referred(line, call, m, place, many, seen + (call,))
+                    told += self.referred(line, [name for _, name in pages.names(m[3])], place, many, seen + (call,))
             numbers += told
         return numbers
 
-    def referred(self, line, call, m, place, many, seen):
-        names = [SAME.get(call[1], "")] if m[3] is None else [name for _, name in pages.names(m[3])]
-        if many > 1 and len(names) == many:  # a name for each call of the row
-            names = [names[place]]
-        calls = [self.named(name) for name in names]
-        if None in calls or set(calls) & set(seen):
-            self.faults.append(f"{self.page}:{line}: refused as what? {m[0]}")
+    def referred(self, line, names, place, many, seen):
+        """the numbers of another call: of the one that is named, or of several names that for this call of the row"""
+        name = names[place] if len(names) == many else names[0]
+        other = self.named(name)
+        if len(names) not in (1, many) or other is None or other in seen:
+            self.faults.append(f"{self.page}:{line}: refused as which call? {', '.join(names)}")
             return []
-        return [number for other in calls for number in self.order(other, seen)]
+        return self.order(other, seen)
 
 
 def header_orders():
@@ -84,7 +72,8 @@ def header_orders():
     text = code.read(orders.page)
     for m in re.finditer(r"/\*((?:(?!\*/).)*)\*/\n\w+ (thk_\w+)\(", text, re.S):
         told = re.sub(r"\s+(?:\* )?", " ", m[1]).rpartition("Refused ")[2]
-        told = re.sub(r"as (thk_\w+)", r"as `\1`", told).replace("as that", "the same")
+        told = told.replace("as that", "as " + "".join(re.findall(r"thk_\w+", m[1])[:1]))
+        told = re.sub(r"as (thk_\w+)", r"as `\1`", told)
         orders.row(text[:m.start(2)].count("\n") + 1, f"`{m[2]}`", told)
     return orders
 

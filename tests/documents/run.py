@@ -8,12 +8,12 @@ import sys
 
 sys.path.insert(0, os.path.dirname(os.path.dirname(os.path.abspath(__file__))))
 
-from documents import layout, named, pages, refusals  # noqa: E402
+from documents import layout, named, refusals  # noqa: E402
 
 
 def main():
     counts, faults = collections.Counter(), []
-    for counted, found in (named.check(pages.PROMISES), refusals.check(), layout.check()):
+    for counted, found in (named.check(), refusals.check(), layout.check()):
         counts.update(counted)
         faults += found
     for fault in faults:
