@@ -22,9 +22,9 @@ MISC = "/usr/share/fonts/X11/misc"
 sys.path[:0] = [HERE, os.path.join(ROOT, "tests")]
 
 import tables  # noqa: E402
-import twin  # noqa: E402
 from native import library  # noqa: E402
 from original import build  # noqa: E402
+from pcf import reading, twins  # noqa: E402
 
 CALLS = ("draw_glyph", "draw_string", "text_check", "unpack_glyph", "load", "lookup", "vet")
 SIZES = {"6x12": 12, "8x14": 14, "8x16": 16, "10x20": 20, "12x24": 24, "14x28": 28, "16x32": 32}  # Terminus
@@ -58,14 +58,14 @@ def make_fonts(folder):
         with open(os.path.join(folder, name + ".pcf"), "wb") as out:
             out.write(font)
     for name, height in SIZES.items():
-        store(name, twin.twin(debian_font("xfonts-terminus", "ter-u%dn_unicode.pcf.gz" % height)))
+        store(name, twins.twin(debian_font("xfonts-terminus", "ter-u%dn_unicode.pcf.gz" % height)))
     unifont = debian_font("xfonts-unifont", "unifont.pcf.gz")
-    store("unifont", twin.twin(unifont))
+    store("unifont", twins.twin(unifont))
     with_glyph = {}
     for rows in ROWS:
         name = "unifont-%d" % (256 * rows)
-        store(name, twin.twin(unifont, rows))
-        with_glyph[name] = twin.codes_with_glyph(unifont, rows)
+        store(name, twins.twin(unifont, rows))
+        with_glyph[name] = reading.codes_with_glyph(unifont, rows)
     return folder, with_glyph
 
 

@@ -8,14 +8,17 @@ import re
 import sys
 
 HERE = os.path.dirname(os.path.abspath(__file__))
+sys.path.insert(0, os.path.join(os.path.dirname(HERE), "tests"))
+
+from pcf import tables  # noqa: E402
+from pcf.numbers import NO_GLYPH, TOP, lines  # noqa: E402
+
 LETTERS = os.path.join(HERE, "letters.txt")
 FONT = os.path.join(HERE, "meter.hex")
 PROPERTIES = [("FONT", "Thalluskin Meter"), ("FAMILY_NAME", "Meter"), ("PIXEL_SIZE", 10), ("FONT_ASCENT", 7),
               ("FONT_DESCENT", 3)]
 BASE = 7            # rows above the base line
 LEAST_UNLIKE = 5    # pixels in which any two digits differ
-NO_GLYPH = 65535
-TOP, COMPRESSED = 8, 256  # format bits, by their value
 
 
 def fail(text):
@@ -70,18 +73,6 @@ def cut(rows):
 # ---- the file: format 0, so the least significant byte first
 
 
-def u16(*numbers):
-    return b"".join(n.to_bytes(2, "little", signed=n < 0) for n in numbers)
-
-
-def u32(*numbers):
-    return b"".join(n.to_bytes(4, "little") for n in numbers)
-
-
-def padded(b):
-    return b + bytes(-len(b) % 4)
-
-
 class Strings:
     """zero-ended strings, and where each begins"""
     def __init__(self):
@@ -94,24 +85,19 @@ class Strings:
 
 
 def properties():
-    strings, records = Strings(), b""
+    strings, records = Strings(), []
     for name, value in PROPERTIES:
         is_string = isinstance(value, str)
-        records += u32(strings.add(name)) + bytes([is_string])
-        records += u32(strings.add(value) if is_string else value)
-    return padded(u32(0, len(PROPERTIES)) + records) + u32(len(strings.all)) + strings.all
+        records.append((strings.add(name), is_string, strings.add(value) if is_string else value))
+    return tables.properties(0, records, strings.all)
 
 
 def accelerators(metrics):
     """no overlap, ink inside; the letters' ascent and descent; the least and the greatest of each metric"""
     least = [min(column) for column in zip(*metrics)]
     greatest = [max(column) for column in zip(*metrics)]
-    flags = bytes([1, 0, 0, 0, 1, 0, 0, 0])
-    return u32(0) + flags + u32(greatest[3], greatest[4], 0) + u16(*least, 0) + u16(*greatest, 0)
-
-
-def compressed(metrics):
-    return u32(COMPRESSED) + u16(len(metrics)) + b"".join(bytes(n + 128 for n in m) for m in metrics)
+    flags = [1, 0, 0, 0, 1, 0, 0, 0]
+    return tables.accelerators(0, flags, greatest[3], greatest[4], 0, (*least, 0), (*greatest, 0))
 
 
 def row_bytes(row):
@@ -121,25 +107,22 @@ def row_bytes(row):
 
 def bitmaps(pictures):
     """the data's size is said once for each row pad that a reader may ask for"""
-    bits, offsets = b"", []
-    for rows in pictures:
-        offsets.append(len(bits))
-        bits += b"".join(row_bytes(row) for row in rows)
-    widths = [(len(rows), len(rows[0]) if rows else 0) for rows in pictures]
-    sizes = [sum(n * pad * -(-width // (8 * pad)) for n, width in widths) for pad in (1, 2, 4, 8)]
-    return u32(TOP, len(pictures), *offsets, *sizes) + bits
+    bits = b"".join(row_bytes(row) for rows in pictures for row in rows)
+    boxes = [(0, len(rows[0]) if rows else 0, len(rows), 0) for rows in pictures]
+    offsets, _ = tables.laid_out(boxes, 1)
+    return tables.bitmaps(TOP, offsets, [tables.laid_out(boxes, pad)[1] for pad in tables.PADS], bits)
 
 
 def codes(of_glyphs):
     low, high = of_glyphs[0], of_glyphs[-1]
     entries = [of_glyphs.index(code) if code in of_glyphs else NO_GLYPH for code in range(low, high + 1)]
-    return u32(0) + u16(low, high, 0, 0, ord("?")) + u16(*entries)
+    return tables.codes(0, (low, high), (0, 0), ord("?"), entries)
 
 
 def glyph_names(of_glyphs):
     strings = Strings()
     offsets = [strings.add(name) for name in of_glyphs]
-    return u32(0, len(offsets), *offsets, len(strings.all)) + strings.all
+    return tables.names(0, offsets, strings.all)
 
 
 def font_of(found):
@@ -150,24 +133,14 @@ def font_of(found):
         width = len(rows[0])
         metrics.append((0, width, width, ascent, len(picture) - ascent))
         pictures.append(picture)
-    tables = [
-        (1, 0, properties()),
-        (2, 0, accelerators(metrics)),
-        (4, COMPRESSED, compressed(metrics)),
-        (8, TOP, bitmaps(pictures)),
-        (32, 0, codes([code for code, _, _ in found])),
-        (128, 0, glyph_names([name for _, name, _ in found])),
-    ]
-    directory, body = b"", b""
-    for kind, form, table in tables:
-        directory += u32(kind, form, len(table), 8 + 16 * len(tables) + len(body))
-        body += padded(table)
-    return b"\1fcp" + u32(len(tables)) + directory + body
-
-
-def lines(content):
-    text = content.hex().upper()
-    return "".join(text[i:i + 64] + "\n" for i in range(0, len(text), 64))
+    return tables.font([
+        properties(),
+        accelerators(metrics),
+        tables.narrow_metrics(0, metrics),
+        bitmaps(pictures),
+        codes([code for code, _, _ in found]),
+        glyph_names([name for _, name, _ in found]),
+    ], padding_counts=False)
 
 
 def stored_font():

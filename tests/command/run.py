@@ -19,6 +19,7 @@ sys.path.insert(0, TESTS)
 from definitions import model  # noqa: E402
 from dump import make  # noqa: E402
 from panel import expected as panel  # noqa: E402
+from pcf.font_f import two_digits  # noqa: E402
 
 MOST_SHOWN = 573440  # the bytes that a font may have to show a text
 PICTURE = os.path.join(ROOT, "docs", "panel.png")
@@ -74,7 +75,7 @@ def panel_of(rows, dropped):
 
 
 def good(folder):
-    f = make.fonts.two_digits()
+    f = two_digits()
     frames = dump_of(f)
 
     def same(what, got):
@@ -118,7 +119,7 @@ def made_fonts(folder):
 
 
 def unusable(folder):
-    packed = gzip.compress(make.fonts.two_digits())
+    packed = gzip.compress(two_digits())
     flipped = packed[:-8] + bytes([packed[-8] ^ 1]) + packed[-7:]
 
     def refused(what, said, *words):
@@ -131,7 +132,7 @@ def unusable(folder):
         refused("not to be opened, even by root", "not readable", "dump", "socket.pcf")
     refused("cut", "not readable", "dump", store(folder, "cut.pcf.gz", packed[:-9]))
     refused("a wrong sum", "not readable", "dump", store(folder, "flipped.pcf.gz", flipped))
-    refused("not compressed", "not readable", "dump", store(folder, "plain.pcf.gz", make.fonts.two_digits()))
+    refused("not compressed", "not readable", "dump", store(folder, "plain.pcf.gz", two_digits()))
     refused("empty, to be uncompressed", "not readable", "dump", store(folder, "empty.pcf.gz", b""))
     long = bytes(make.MOST + 1)
     refused("too long", "over the limit", "dump", store(folder, "long.pcf", long))
@@ -151,7 +152,7 @@ def drawn_by_model(font, text, width, height, scale, wrap):
 
 def shown(folder):
     """texts on panels of many sizes; `wrap` is a number, None for no wrap, or nothing for the right end"""
-    own, f = panel.meter.stored_font(), make.fonts.two_digits()
+    own, f = panel.meter.stored_font(), two_digits()
     store(folder, "f.pcf", f)
 
     def same(what, words, text, width=72, height=21, scale=1, wrap="", font=own):
@@ -212,7 +213,7 @@ def not_shown(folder):
 
     def refused_by_model(number, place, text, *sizes):
         try:
-            drawn_by_model(make.fonts.two_digits(), text, *sizes)
+            drawn_by_model(two_digits(), text, *sizes)
         except model.Refused as r:
             if (r.number, r.place) == (number, place):
                 return
@@ -398,7 +399,7 @@ def readme_of_rattle():
 def main():
     with tempfile.TemporaryDirectory() as folder:
         # the first runs may build the programs, and say so
-        store(folder, "first.pcf", make.fonts.two_digits())
+        store(folder, "first.pcf", two_digits())
         for words in (["dump", "first.pcf"], ["show", "12"]):
             if run(*words, folder=folder, error=None).returncode != 0:
                 sys.exit(1)

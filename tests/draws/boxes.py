@@ -1,13 +1,15 @@
 """Fonts given by the boxes and rows of their glyphs."""
 import random
 
-from fonts.make import (BIG, NO_GLYPH, THREE, TOP, accelerators, bitmaps, codes, font, names, narrow_metrics,
-                        properties, wide_metrics)
+from pcf.font_f import THREE
+from pcf.numbers import BIG, NO_GLYPH, TOP
+from pcf.tables import (PADS, accelerators, bitmaps, codes, font, laid_out, names, narrow_metrics, properties,
+                        wide_metrics)
 
 
 def of_glyphs(form, pad, top, boxes, offsets, data, metrics=wide_metrics):
     """codes from 0x41 on; `boxes` has left bearing, width, ascent, descent of each glyph"""
-    picked = (1, 2, 4, 8).index(pad)
+    picked = PADS.index(pad)
     sizes = [0] * 4
     sizes[picked] = len(data)
     record = (lambda *m: m[:5]) if metrics is narrow_metrics else (lambda *m: m)
@@ -19,23 +21,6 @@ def of_glyphs(form, pad, top, boxes, offsets, data, metrics=wide_metrics):
         codes(form, (0x41, 0x40 + len(boxes)), (0, 0), 0x41, list(range(len(boxes)))),
         names(form, [0] * len(boxes), b"x\0"),
     ])
-
-
-def row_bytes(width):
-    return (width + 7) // 8
-
-
-def row_stride(width, pad):
-    return -(-row_bytes(width) // pad) * pad
-
-
-def laid_out(boxes, pad):
-    """where each glyph's rows begin if they follow each other, and how many bytes they have together"""
-    offsets, size = [], 0
-    for _, width, ascent, descent in boxes:
-        offsets.append(size)
-        size += (ascent + descent) * row_stride(width, pad)
-    return offsets, size
 
 
 def widths(pad, form):
@@ -50,7 +35,7 @@ def widths(pad, form):
 def mixed(seed):
     """a dozen small glyphs, sparse and dense, some with too little data"""
     rng = random.Random(seed)
-    pad, form = rng.choice((1, 2, 4, 8)), rng.choice((0, BIG))
+    pad, form = rng.choice(PADS), rng.choice((0, BIG))
     boxes = []
     for _ in range(12):
         ascent = rng.randrange(4)

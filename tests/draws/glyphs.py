@@ -4,11 +4,13 @@ import os
 import random
 
 from definitions import model
-from draws.boxes import large, mixed, row_bytes, shapes, widths
+from draws.boxes import large, mixed, shapes, widths
 from draws.calls import (KINDS, LAST, MOST, bitmap, box, but, char, damages, each, fitting, glyph, prep, show,
                          unpack)
 from fonts import make as fonts
-from fonts.make import BIG
+from pcf.font_f import two_digits
+from pcf.numbers import BIG
+from pcf.tables import row_bytes
 
 CASES = os.path.join(os.path.dirname(os.path.dirname(os.path.abspath(__file__))), "definitions")
 
@@ -41,7 +43,7 @@ def lengths():
 
 
 def records():
-    f = fonts.two_digits()
+    f = two_digits()
     calls = each(box(1, 3, 3), 0x31, 9, 3)
     for changes in damages(f):
         yield from (but(call, **changes) for call in calls[:5])
@@ -299,7 +301,7 @@ def few_codes():
 
 
 def topics():
-    f = fonts.two_digits()
+    f = two_digits()
     yield "marked", [(f, marked())]
     yield "definitions", of_definitions()
     yield "lengths", [(f, lengths())]

@@ -8,6 +8,7 @@ from definitions import model
 from draws.boxes import letters, mixed
 from draws.calls import LAST, MOST, but, damages, fitting, step, text
 from fonts import make as fonts
+from pcf.font_f import two_digits
 
 CASES = os.path.join(os.path.dirname(os.path.dirname(os.path.abspath(__file__))), "definitions", "cases.jsonl")
 
@@ -318,7 +319,7 @@ def of_definitions():
 
 
 def topics():
-    f, some = fonts.two_digits(), letters()
+    f, some = two_digits(), letters()
     yield "texts", [held(f, [*marked(), *of_definitions(), *arguments()]), held(fonts.big_two_byte(), two_bytes())]
     yield "texts_breaks", [held(some, breaks())]
     yield "texts_wraps", [held(f, wraps())]

@@ -15,6 +15,7 @@ sys.path.insert(0, TESTS)
 
 from definitions import model  # noqa: E402
 from dump import make  # noqa: E402
+from pcf import font_f  # noqa: E402
 
 # every number that a dump can print: the others are about calls that it does not make
 PRINTED = [1, 2, 3, 4, 5, 6, 7, 8, 10, 11, 12, 13, 14, 17, 18, 20]
@@ -63,7 +64,7 @@ def main():
     inputs = make.files()
     written = outputs(inputs)
     want = {
-        ("dump", "stdin"): make.fonts.F.lstrip().encode(),
+        ("dump", "stdin"): font_f.LINES.encode(),
         ("dump", "stdout"): written["f.hex"],
         ("dump_files", "args"): "".join(name + "\n" for name in inputs).encode(),
         ("dump_files", "stdout"): b"".join(b"== %s\n" % name.encode() + written[name] for name in inputs),

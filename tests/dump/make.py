@@ -1,6 +1,6 @@
 #!/usr/bin/env python3
-"""Writes the inputs of crates/dump_files/data: fonts as lines of hexadecimal digits, built from the
-tables of tests/fonts/make.py, and texts that are no such lines.
+"""Writes the inputs of crates/dump_files/data: fonts as lines of hexadecimal digits, and texts that are no
+such lines.
 
 An input is named after what it shows; refused_NN_.. is one that is refused with NN."""
 import os
@@ -11,16 +11,18 @@ DATA = os.path.join(os.path.dirname(TESTS), "crates", "dump_files", "data")
 sys.path.insert(0, TESTS)
 
 from fonts import make as fonts  # noqa: E402
-from fonts.make import (BIG, DIGITS, NO_GLYPH, THREE, TOP, accelerators, bitmaps, codes, font, names,  # noqa: E402
-                        narrow_metrics, properties, wide_metrics)
+from pcf import font_f, numbers  # noqa: E402
+from pcf.font_f import DIGITS, THREE  # noqa: E402
+from pcf.numbers import BIG, NO_GLYPH, TOP, padded  # noqa: E402
+from pcf.rewriting import askew, with_size  # noqa: E402
+from pcf.tables import (PADS, accelerators, bitmaps, codes, font, laid_out, names, narrow_metrics,  # noqa: E402
+                        properties, wide_metrics)
 
 MOST = 49152  # the bytes that a font may have
 
 
 def lines(content, digits=64):
-    """so many digits a line"""
-    text = content.hex().upper()
-    return "".join(text[i:i + digits] + "\n" for i in range(0, len(text), digits)).encode()
+    return numbers.lines(content, digits).encode()
 
 
 # ---- fonts: the two digits, with some tables in place of their own
@@ -59,17 +61,15 @@ def with_codes(second, first, entries, form=0):
 
 def in_rows(pad, form):
     """glyphs 1, 8, 9 and 16 pixels wide and two rows high; no two bytes of the data are the same"""
-    offsets, size = [], 0
-    for row_bytes in (1, 1, 2, 2):
-        offsets.append(size)
-        size += 2 * max(row_bytes, pad)
-    picked = (1, 2, 4, 8).index(pad)
+    widths = (1, 8, 9, 16)
+    offsets, size = laid_out([(0, width, 1, 1) for width in widths], pad)
+    picked = PADS.index(pad)
     sizes = [0] * 4
     sizes[picked] = size
     return font([
         properties(form, [], b""),
         bounds((0, 0, 16, 2, 0, 0), form),
-        narrow_metrics(form, [(0, 0, width, 1, 1) for width in (1, 8, 9, 16)]),
+        narrow_metrics(form, [(0, 0, width, 1, 1) for width in widths]),
         bitmaps(form | TOP | picked, offsets, sizes, bytes(255 - k for k in range(size))),
         codes(form, (0x61, 0x64), (0, 0), 0x61, [0, 1, 2, 3]),
         names(form, [0, 2, 4, 6], b"a\0b\0c\0d\0"),
@@ -97,7 +97,7 @@ def last_tables():
 
 def mixed_orders():
     """every second table big-endian, and a format word that misleads in each"""
-    return font([fonts.askew(table) for table in (
+    return font([askew(table) for table in (
         properties(BIG, [(0, 1, 5)], b"FONT\0F\0"),
         bounds((0, 0, 8, 4, 0, 0), 0),
         wide_metrics(BIG, [(1, 0, 8, 2, 1, 0), (0, 0, 4, 4, 0, 0)]),
@@ -122,7 +122,7 @@ def largest_frame():
         bounds((0, 0, 16, 32767, 0, 0)),
         codes(0, (0x41, 0x41), (0, 0), 0x41, [0]),
     ]
-    body = b"".join(fonts.padded(content) for _, _, content in small)
+    body = b"".join(padded(content) for _, _, content in small)
     fixed = at + len(body) + 8 + 12 + 8 + 4 + 16 + 8 + 4 + 4  # up to the strings
     size = MOST - fixed
     rows = (size - 1) // 2
@@ -136,7 +136,7 @@ def largest_frame():
     ]
     made = font(tables)
     # the bitmap data goes on over the names table, whose strings begin with its byte 16
-    made = fonts.with_size(made, 4, len(tables[4][2]) + bits)
+    made = with_size(made, 4, len(tables[4][2]) + bits)
     assert len(made) == MOST and made[fixed:] == strings
     return made
 
@@ -145,8 +145,8 @@ def largest_frame():
 
 
 def texts():
-    f = fonts.two_digits()
-    whole = fonts.F.lstrip().encode()
+    f = font_f.two_digits()
+    whole = font_f.LINES.encode()
     full = f + bytes(MOST - len(f))
     yield "f", whole
     yield "lines_of_2", lines(f, 2)

@@ -12,7 +12,9 @@ from draws import make as draws  # noqa: E402
 from dump import make as dump  # noqa: E402
 from exports import layouts  # noqa: E402
 from fonts import make as fonts  # noqa: E402
-from fonts.make import BIG, TOP  # noqa: E402
+from pcf import tables  # noqa: E402
+from pcf.font_f import THREE, two_digits  # noqa: E402
+from pcf.numbers import BIG, TOP  # noqa: E402
 
 LAST = calls.LAST
 # as tests/exports/replay.c numbers them
@@ -155,16 +157,16 @@ def distinct():
     """a font of whose record no two numbers of a kind are the same; its six kinds are preceded by other tables, so that
     they stand far from each other"""
     def gap(n):
-        return fonts.other(4096 + n, bytes(4 * n))
+        return tables.other(4096 + n, bytes(4 * n))
     form = BIG
-    return fonts.font([
-        gap(1), fonts.names(form, list(range(0, 33, 3)), b"".join(b"%02d\0" % k for k in range(11)) + b"\0"),
-        gap(9), fonts.codes(form, (5, 12), (2, 3), 0x1234, list(range(16))),
-        gap(25), fonts.properties(form, [(0, 1, 7), (13, 0, 305419896), (7, 255, 17)], b"FAMILY\0Meter\0SIZE\0"),
-        gap(64), fonts.accelerators(form | 512, [11, 12, 13, 14, 15, 16, 17, 18], 70001, -70002, 70003,
-                                    (-21, 22, -23, 24, -25, 26), (31, 32, 33, 34, 35, 36)),
-        gap(100), fonts.narrow_metrics(form, [(k, k + 1, k + 2, 20, k + 4) for k in range(7)]),
-        gap(5), fonts.bitmaps(form | TOP | 2, [0, 4, 8, 12], [10, 20, 40, 80], bytes(range(200, 240))),
+    return tables.font([
+        gap(1), tables.names(form, list(range(0, 33, 3)), b"".join(b"%02d\0" % k for k in range(11)) + b"\0"),
+        gap(9), tables.codes(form, (5, 12), (2, 3), 0x1234, list(range(16))),
+        gap(25), tables.properties(form, [(0, 1, 7), (13, 0, 305419896), (7, 255, 17)], b"FAMILY\0Meter\0SIZE\0"),
+        gap(64), tables.accelerators(form | 512, [11, 12, 13, 14, 15, 16, 17, 18], 70001, -70002, 70003,
+                                     (-21, 22, -23, 24, -25, 26), (31, 32, 33, 34, 35, 36)),
+        gap(100), tables.narrow_metrics(form, [(k, k + 1, k + 2, 20, k + 4) for k in range(7)]),
+        gap(5), tables.bitmaps(form | TOP | 2, [0, 4, 8, 12], [10, 20, 40, 80], bytes(range(200, 240))),
     ])
 
 
@@ -172,9 +174,9 @@ def one_big(big):
     """the two digits, with one table big-endian"""
     forms = [BIG if k == big else 0 for k in range(5)]
     return dump.digits_but(
-        fonts.properties(forms[0], [], b""), fonts.narrow_metrics(forms[1], [fonts.THREE[:5]] * 2),
-        fonts.bitmaps(forms[2] | TOP, [0, 3], [6, 12, 24, 48], b"\xe0\xa0\xe0\x40\x40\x40"),
-        fonts.codes(forms[3], (0x30, 0x31), (0, 0), 0x30, [0, 1]), fonts.names(forms[4], [0, 4], b"nil\0one\0"))
+        tables.properties(forms[0], [], b""), tables.narrow_metrics(forms[1], [THREE[:5]] * 2),
+        tables.bitmaps(forms[2] | TOP, [0, 3], [6, 12, 24, 48], b"\xe0\xa0\xe0\x40\x40\x40"),
+        tables.codes(forms[3], (0x30, 0x31), (0, 0), 0x30, [0, 1]), tables.names(forms[4], [0, 4], b"nil\0one\0"))
 
 
 def test_fonts():
@@ -212,7 +214,7 @@ def questions(b, rec):
 
 def wrong_records():
     """every question with records that do not fit, or fit though no loading gave them"""
-    for b in (fonts.two_digits(), distinct()):
+    for b in (two_digits(), distinct()):
         rec = model.load(b)
         for change in [*calls.damages(b), *calls.fitting(b)]:
             made = copy.deepcopy(rec)
@@ -231,7 +233,7 @@ def wrong_records():
 
 def empty():
     """nothing lent: no font, no text, no buffer, each for itself and together"""
-    f = fonts.two_digits()
+    f = two_digits()
     rec = model.load(f)
     for b, of_font in ((f, rec), (b"", rec), (b"", NO_RECORD)):
         where = {"start": 0, "stride": 3, "scale": 1, "colour": 5}

@@ -22,8 +22,8 @@ sys.path.insert(0, TESTS)
 from definitions import model  # noqa: E402
 from dump import make as dump  # noqa: E402
 from exports import cases, layouts  # noqa: E402
-from fonts import make as fonts  # noqa: E402
 from native import library  # noqa: E402
+from pcf.font_f import two_digits  # noqa: E402
 
 ARCHIVE = library.ARCHIVE
 
@@ -310,7 +310,7 @@ def example(at, folder):
             if f.read() != picture(page, width):
                 fail("draw, %s: another picture than the model's" % what)
 
-    f = fonts.two_digits()
+    f = two_digits()
     for text, width, height, scale in PAGES:
         drawn("%r" % text[:20], f, text, width, height, scale)
     for long in (4095, 4096, 4097, 1000000):

@@ -9,13 +9,14 @@ import os
 import re
 import sys
 
-HERE = os.path.dirname(os.path.abspath(__file__))
-ROOT = os.path.dirname(os.path.dirname(HERE))
+TESTS = os.path.dirname(os.path.dirname(os.path.abspath(__file__)))
+ROOT = os.path.dirname(TESTS)
 PROGRAM = os.path.join(ROOT, "crates", "inspect")
-sys.path.insert(0, os.path.join(ROOT, "tests", "definitions"))
+sys.path.insert(0, TESTS)
 
-import make  # noqa: E402
-import model  # noqa: E402
+from definitions import model  # noqa: E402
+from fonts import make  # noqa: E402
+from pcf.font_f import two_digits  # noqa: E402
 
 
 def read(*path):
@@ -185,7 +186,7 @@ def font_f():
 
 
 def main():
-    if make.two_digits() != font_f():
+    if two_digits() != font_f():
         fail("font F here is not the one of crates/promises/specs/FontF.antt")
     made = make.files()
     kept = sorted(os.listdir(os.path.join(PROGRAM, "data")))

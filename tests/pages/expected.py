@@ -11,7 +11,7 @@ PROGRAM = os.path.join(os.path.dirname(TESTS), "crates", "pages")
 sys.path.insert(0, TESTS)
 
 from definitions import model  # noqa: E402
-from fonts import make as fonts  # noqa: E402
+from pcf import font_f  # noqa: E402
 
 COLOUR = 1
 
@@ -77,10 +77,10 @@ def page(b, rec, title, text, length, stride, wrap, scale, old):
 
 
 def main():
-    b = fonts.two_digits()
+    b = font_f.two_digits()
     rec = model.vet(b)
     pages = [page(b, rec, *p) for p in PAGES]
-    want = {"stdin": fonts.F.lstrip().encode(), "stdout": b"".join(written for written, _ in pages)}
+    want = {"stdin": font_f.LINES.encode(), "stdout": b"".join(written for written, _ in pages)}
     if sys.argv[1:] == ["--write"]:
         for name, content in want.items():
             store(name, content)

@@ -30,6 +30,7 @@ sys.path.insert(0, TESTS)
 
 from native import library  # noqa: E402
 from original.build import install  # noqa: E402
+from pcf.rewriting import padded_to_8  # noqa: E402
 
 FONTS = ["xfonts-base", "xfonts-terminus", "xfonts-unifont"]
 HEADERS = "/usr/include/freetype2"
@@ -39,7 +40,7 @@ FORMATS = [
     "-p1 -m -L -u1", "-p2 -m -L -u1", "-p4 -m -L -u1", "-p1 -m -M -u1", "-p2 -m -M -u1",
     "-p1 -l -L -u1", "-p4 -m -M -u2",
 ]
-EIGHT = FORMATS[2]  # bdftopcf does not pad rows to 8 bytes; that is done here
+EIGHT = FORMATS[2]  # bdftopcf does not pad rows to 8 bytes; padded_to_8 does
 NOT_DRAWN = FORMATS[-2:]
 
 # A glyph that does not fit compressed metrics, in which a number is below 128.
@@ -117,28 +118,6 @@ def as_is(paths, folder, lacks):
 def format_of(k):
     """bdftopcf's options for a font, and whether its metrics have to have 12 bytes"""
     return FORMATS[k % len(FORMATS)], k % 3 == 1
-
-
-def padded_to_8(font):
-    """the font with its rows of 4 bytes padded to 8; where some are longer, as it is"""
-    entries = [list(entry) for entry in struct.iter_unpack("<4L", font[8:8 + 16 * font[4]])]
-    bitmaps, = (entry for entry in entries if entry[0] == 8)
-    _, form, size, at = bitmaps
-    glyphs, = struct.unpack_from("<L", font, at + 4)
-    sizes = struct.unpack_from("<4L", font, at + 8 + 4 * glyphs)
-    if sizes[3] != 2 * sizes[2]:
-        return font
-    start = at + 24 + 4 * glyphs
-    table = struct.pack("<2L", form | 3, glyphs)
-    table += struct.pack("<%dL" % glyphs, *(2 * n for n in struct.unpack_from("<%dL" % glyphs, font, at + 8)))
-    table += struct.pack("<4L", *sizes)
-    table += b"".join(font[i:i + 4] + b"\xFF" * 4 for i in range(start, start + sizes[2], 4))
-    for entry in entries:  # FreeType wants the tables in the order of the directory
-        if entry[3] > at:
-            entry[3] += len(table) - size
-    bitmaps[1:3] = form | 3, len(table)
-    directory = b"".join(struct.pack("<4L", *entry) for entry in entries)
-    return font[:8] + directory + font[8 + len(directory):at] + table + font[at + size:]
 
 
 def rewritten(paths, folder):

@@ -8,7 +8,7 @@ answers it."""
 import random
 import struct
 
-from fonts.make import BIG, TOP
+from pcf.numbers import BIG, TOP
 from recorded import twins
 
 KINDS = ["font", "load_pcf", "prop_at", "get_glyph", "get_name", "get_metrics", "dimensions", "prep_char",

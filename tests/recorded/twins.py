@@ -1,29 +1,20 @@
-"""Fonts that 000 and the port read alike.
+"""Fonts that 000 and the port read alike: twins, as tests/pcf/twins.py says.
 
-000 takes the count of code entries for their bytes, so it sees half of the entries: a twin has twice the codes, of
-which the second half have no glyph. It looks at a byte past a row whose width is a multiple of 8: a twin's
-bitmap data have a byte more. It reads 12-byte metrics two bytes early, and shifts the scan unit bits by one less:
-so metrics are of 5 bytes, but for two fonts whose numbers are the same either way, and fonts with other scan
-units are not asked about their record."""
-from fonts.make import (BIG, COMPRESSED, NO_GLYPH, THREE, TOP, accelerators, bitmaps, codes, font, names,
-                        narrow_metrics, other, properties, wide_metrics, with_bytes, with_offset, with_size, word)
-
-
-def twin_codes(form, second, first, default, entries):
-    """one byte: the second byte's range is doubled; two bytes: the first one's"""
-    empty = [NO_GLYPH] * len(entries)
-    if first == (0, 0):
-        second = (second[0], second[1] + len(entries))
-    else:
-        first = (first[0], first[1] + (first[1] - first[0] + 1))
-    return codes(form, second, first, default, entries + empty)
+000 also reads 12-byte metrics two bytes early, and shifts the scan unit bits by one less: so metrics are of 5 bytes,
+but for two fonts whose numbers are the same either way, and fonts with other scan units are not asked about their
+record."""
+from pcf import reading, rewriting, twins
+from pcf.font_f import THREE
+from pcf.numbers import BIG, NO_GLYPH, TOP, word
+from pcf.rewriting import with_bytes, with_offset, with_size
+from pcf.tables import (PADS, accelerators, bitmaps, font, names, narrow_metrics, other, properties, row_stride,
+                        wide_metrics)
+from pcf.twins import codes as twin_codes
 
 
-def twin_bitmaps(form, offsets, data, sizes=(1, 2, 3, 4)):
+def twin_bitmaps(form, offsets, data):
     """the sizes that the row pad does not pick are not looked at"""
-    sizes, data = list(sizes), data + b"\xff"
-    sizes[form & 3] = len(data)
-    return bitmaps(form | TOP, offsets, sizes, data)
+    return twins.bitmaps(form | TOP, offsets, (1, 2, 3, 4), data, b"\xff")
 
 
 def bounds(form, width, ascent, descent, kind=2):
@@ -60,7 +51,7 @@ def big_two_byte():
 
 def row(width, pad, seed):
     """a row's bytes: the bits past the width and in the padding are set as others are"""
-    return bytes((seed * 37 + 11 * k) % 251 for k in range(-(-((width + 7) // 8) // pad) * pad))
+    return bytes((seed * 37 + 11 * k) % 251 for k in range(row_stride(width, pad)))
 
 
 # left bearing, width, ascent and descent of glyphs of many widths, 1 to 3 high
@@ -79,7 +70,7 @@ def widths(pad, form):
         bounds(form, 33, 3, 1),
         other(64, b"widths"),
         narrow_metrics(form, [(left, 0, width, ascent, descent) for left, width, ascent, descent in BOXES]),
-        twin_bitmaps(form | (1, 2, 4, 8).index(pad), offsets, data),
+        twin_bitmaps(form | PADS.index(pad), offsets, data),
         twin_codes(form, (0x41, 0x40 + len(BOXES)), (0, 0), 0x41, list(range(len(BOXES)))),
         names(form, [0] * len(BOXES), b"x\0"),
     ])
@@ -102,13 +93,8 @@ def repeated(last_kind):
 
 
 def askew():
-    """in every table the format word that does not count says otherwise: the directory's, or the metrics' own"""
-    def turned(table):
-        kind, form, content = table
-        if kind == 4:
-            return kind, form, word(form ^ BIG ^ COMPRESSED) + content[4:]
-        return kind, form ^ BIG ^ TOP ^ 3, content
-    return font([turned(table) for table in (
+    """in every table the format word that does not count says otherwise"""
+    return font([rewriting.askew(table, BIG | TOP | 3) for table in (
         properties(BIG, [(1, 1, 0)], b"\0A\0"), bounds(BIG, 9, 2, 1), narrow_metrics(BIG, [(0, 9, 9, 2, 1)]),
         twin_bitmaps(BIG | 2, [0], b"\x80\x80\0\0\xff\x00\0\0\x55\x80\0\0"),
         twin_codes(0, (0x61, 0x61), (0, 0), 0x61, [0]), names(BIG, [1], b"\0a\0"))])
@@ -192,8 +178,7 @@ def damaged():
     """files that are not loaded: each is a good one but for one number or one byte, or a table less"""
     good = digits()
     entries = len(DIGITS)
-    at = {number: 8 + 16 * entries + sum(len(c) + -len(c) % 4 for _, _, c in DIGITS[:number])
-          for number in range(entries)}
+    at = [start for _, _, _, start in reading.directory(good)]
     for size in (0, 7, 8, 8 + 16 * entries - 1):
         yield good[:size]
     for place in range(4):
