@@ -16,7 +16,7 @@ ROOT = os.path.dirname(TESTS)
 SCRIPT = os.path.join(ROOT, "thalluskin")
 sys.path.insert(0, TESTS)
 
-from definitions import model  # noqa: E402
+import model  # noqa: E402
 from dump import make  # noqa: E402
 from panel import expected as panel  # noqa: E402
 from pcf.font_f import two_digits  # noqa: E402

@@ -2,7 +2,7 @@
 out. "rec" has what is changed in the record that loading gives, as {"bitmaps.pad": 3}. A file has one font
 after the other: how many bytes it has, how many calls of 64 bytes follow, the font, the calls;
 crates/draws/src/calls.rt says where in a call each argument stands."""
-from definitions import model
+import model
 
 CALL = 64  # bytes of a call
 KINDS = ["change", "draw_bitmap", "draw_glyph", "draw_char", "unpack_glyph", "prep_char", "show_glyph",

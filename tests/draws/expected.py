@@ -14,7 +14,7 @@ TESTS = os.path.dirname(HERE)
 PROGRAM = os.path.join(os.path.dirname(TESTS), "crates", "draws")
 sys.path.insert(0, TESTS)
 
-from definitions import model  # noqa: E402
+import model  # noqa: E402
 from draws import calls, make  # noqa: E402
 
 # every number that each call can refuse with
@@ -63,16 +63,6 @@ def before(length):
     return [100 + i % 7 for i in range(length)]
 
 
-class Length:
-    """a buffer of which the length alone is asked"""
-
-    def __init__(self, length):
-        self.length = length
-
-    def __len__(self):
-        return self.length
-
-
 def box_words(info):
     return "glyph %d, width %d, height %d, pad top %d, pad left %d" % tuple(model.flat_info(info))
 
@@ -81,31 +71,30 @@ def row_words(drawn, dropped):
     return "drawn %d, dropped %d" % (drawn, dropped)
 
 
-def asked(b, rec, c, buf, colour):
-    """the answer in words, and the buffer after the call"""
+def asked(b, rec, c):
+    """the answer in words, and the pixels to colour"""
     call = c["call"]
-    place = [c.get(name) for name in ("start", "stride", "scale")]
+    place = [c.get(name) for name in ("len", "start", "stride", "scale")]
     if call == "draw_bitmap":
-        rows, new = model.draw_bitmap(b, rec, c["g"], c["width"], c["height"], buf, *place, colour)
-        return row_words(*rows), new
+        rows, pixels = model.bitmap_check(b, rec, c["g"], c["width"], c["height"], *place)
+        return row_words(*rows), pixels
     if call == "draw_glyph":
-        rows, new = model.draw_glyph(b, rec, c["info"], buf, *place, colour)
-        return row_words(*rows), new
+        rows, pixels = model.glyph_check(b, rec, c["info"], *place)
+        return row_words(*rows), pixels
     if call == "draw_char":
-        (info, *rows), new = model.draw_char(b, rec, c["code"], buf, *place, colour)
-        return box_words(info) + ", " + row_words(*rows), new
+        (info, *rows), pixels = model.char_check(b, rec, c["code"], *place)
+        return box_words(info) + ", " + row_words(*rows), pixels
     if call == "unpack_glyph":
-        rows, new = model.unpack_glyph(b, rec, c["info"], buf, *place[:2])
-        return "rows %d" % rows, new
+        rows, pixels = model.unpack_check(b, rec, c["info"], *place[:3])
+        return "rows %d" % rows, pixels
     if call == "draw_string":
-        extent, new = model.draw_string(b, rec, c["text"], buf, c["start"], c["wrap"], *place[1:], colour)
-        return "height %d, dropped %d" % extent, new
+        extent, pixels = model.text_check(b, rec, c["text"], *place[:2], c["wrap"], *place[2:])
+        return "height %d, dropped %d" % extent, pixels
     # show_glyph: as draw_glyph of a record that passes its test, but asks no limit
-    length = buf.length if isinstance(buf, Length) else len(buf)
-    seen = model.glyph_picture(b, rec, c["info"], length, *place)
+    seen = model.glyph_picture(b, rec, c["info"], *place)
     if isinstance(seen, int):
         raise model.Refused(seen)
-    return row_words(*seen[:2]), model.coloured(buf, seen[2], colour)
+    return row_words(*seen[:2]), seen[2]
 
 
 def runs(places):
@@ -117,15 +106,6 @@ def runs(places):
         else:
             made.append([i, i])
     return ",".join("%d" % a if a == z else "%d-%d" % (a, z) for a, z in made) or "none"
-
-
-def dry(b, rec, c):
-    """the answer with a buffer that is longer than any"""
-    kept, model.coloured = model.coloured, lambda buf, pixels, colour: buf
-    try:
-        return asked(b, rec, c, Length(c["len"]), 0)[0]
-    finally:
-        model.coloured = kept
 
 
 def found(b, rec, c):
@@ -143,18 +123,15 @@ def line(b, rec, c, colour):
             return "%s: %s" % (c["call"], found(b, rec, c)), 0
         except model.Refused as r:
             return "%s: %s" % (c["call"], r), r.number
-    number, new, old = 0, [], []
+    number, pixels = 0, []
     try:
-        if c["len"] > calls.MOST:
-            words = dry(b, rec, c)
-        else:
-            old = before(c["len"])
-            words, new = asked(b, rec, c, old, colour)
+        words, pixels = asked(b, rec, c)
     except model.Refused as r:
         words, number = str(r), r.number
     if c["len"] > calls.MOST:
         return "%s: dry run %s" % (c["call"], words), number
-    places = [i for i, (was, now) in enumerate(zip(old, new)) if was != now]
+    old = before(c["len"])
+    places = [i for i, (was, now) in enumerate(zip(old, model.coloured(old, pixels, colour))) if was != now]
     return "%s: %s; dry run %s; pixels %s" % (c["call"], words, words, runs(places)), number
 
 

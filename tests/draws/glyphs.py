@@ -3,7 +3,7 @@ import json
 import os
 import random
 
-from definitions import model
+import model
 from draws.boxes import large, mixed, shapes, widths
 from draws.calls import (KINDS, LAST, MOST, bitmap, box, but, char, damages, each, fitting, glyph, prep, show,
                          unpack)

@@ -4,7 +4,7 @@ import json
 import os
 import random
 
-from definitions import model
+import model
 from draws.boxes import letters, mixed
 from draws.calls import LAST, MOST, but, damages, fitting, step, text
 from fonts import make as fonts
@@ -250,15 +250,11 @@ def steps():
 
 def end_of(b, call):
     """the first place behind a text in an endless buffer"""
-    seen = []
-    kept, model.coloured = model.coloured, lambda buf, pixels, colour: seen.extend(pixels)
     try:
-        model.draw_string(b, model.load(b), call["text"], range(10 ** 9), call["start"], call["wrap"],
-                          call["stride"], call["scale"], 0)
+        _, seen = model.text_check(b, model.load(b), call["text"], 10 ** 9, call["start"], call["wrap"],
+                                   call["stride"], call["scale"])
     except model.Refused:
-        pass
-    finally:
-        model.coloured = kept
+        seen = []
     return max(seen, default=call["start"] + 2 * call["stride"]) + 1
 
 

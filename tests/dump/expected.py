@@ -13,7 +13,7 @@ TESTS = os.path.dirname(HERE)
 CRATES = os.path.join(os.path.dirname(TESTS), "crates")
 sys.path.insert(0, TESTS)
 
-from definitions import model  # noqa: E402
+import model  # noqa: E402
 from dump import make  # noqa: E402
 from pcf import font_f  # noqa: E402
 

@@ -6,7 +6,7 @@ import sys
 TESTS = os.path.dirname(os.path.dirname(os.path.abspath(__file__)))
 sys.path.insert(0, TESTS)
 
-from definitions import model  # noqa: E402
+import model  # noqa: E402
 from draws import calls, expected  # noqa: E402
 from draws import make as draws  # noqa: E402
 from dump import make as dump  # noqa: E402
@@ -41,14 +41,6 @@ def call(function, font=b"", rec=None, text=b"", buf=(), **numbers):
 
 def info_of(c):
     return {name: c.get(name, 0) for name in ("glyph", "width", "height", "pad_top", "pad_left")}
-
-
-def dry(*arguments):
-    kept, model.coloured = model.coloured, lambda buf, pixels, colour: buf
-    try:
-        return model.draw_string(*arguments)[0]
-    finally:
-        model.coloured = kept
 
 
 def answered(c):
@@ -94,7 +86,7 @@ def answered(c):
         rows, new = model.draw_string(b, rec, c["text"], buf, where[0], wrap, *where[1:], colour)
         return {"rows": {"height": rows[0], "dropped": rows[1]}}, new
     if function == "thk_text_check":
-        rows = dry(b, rec, c["text"], expected.Length(c["len"]), where[0], wrap, *where[1:], 0)
+        rows, _ = model.text_check(b, rec, c["text"], c["len"], where[0], wrap, *where[1:])
         return {"rows": {"height": rows[0], "dropped": rows[1]}}, buf
     step = model.utf8_step(c["text"], c["start"])
     return {"found": step is not None, "code": step[0] if step else 0, "next": step[1] if step else 0}, buf

@@ -19,7 +19,7 @@ TESTS = os.path.dirname(os.path.dirname(os.path.abspath(__file__)))
 ROOT = os.path.dirname(TESTS)
 sys.path.insert(0, TESTS)
 
-from definitions import model  # noqa: E402
+import model  # noqa: E402
 from dump import make as dump  # noqa: E402
 from exports import cases, layouts  # noqa: E402
 from native import library  # noqa: E402

@@ -2,7 +2,7 @@
 """Holds crates/inspect/stdout, which the program must write, to what the model of document 01 says
 of the files in crates/inspect/data, line by line; and the files to what make.py makes.
 
-The answers come from tests/definitions/model.py, so that the stored output is not just what the
+The answers come from tests/model, so that the stored output is not just what the
 program once wrote. With --write the output is stored anew from the model."""
 import copy
 import os
@@ -14,7 +14,7 @@ ROOT = os.path.dirname(TESTS)
 PROGRAM = os.path.join(ROOT, "crates", "inspect")
 sys.path.insert(0, TESTS)
 
-from definitions import model  # noqa: E402
+import model  # noqa: E402
 from fonts import make  # noqa: E402
 from pcf.font_f import two_digits  # noqa: E402
 

@@ -10,7 +10,7 @@ TESTS = os.path.dirname(os.path.dirname(os.path.abspath(__file__)))
 PROGRAM = os.path.join(os.path.dirname(TESTS), "crates", "pages")
 sys.path.insert(0, TESTS)
 
-from definitions import model  # noqa: E402
+import model  # noqa: E402
 from pcf import font_f  # noqa: E402
 
 COLOUR = 1

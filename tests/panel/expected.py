@@ -13,7 +13,7 @@ sys.path.insert(0, TESTS)
 sys.path.insert(0, os.path.join(ROOT, "meter-font"))
 
 import make as meter  # noqa: E402
-from definitions import model  # noqa: E402
+import model  # noqa: E402
 
 BLOCKS, PICTURE = 0, 1
 WIDTH, HEIGHT = 72, 21

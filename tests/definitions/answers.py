@@ -1,0 +1,75 @@
+"""What the model says of a case: number, place, values, and the pixels that changed."""
+import json
+
+import model
+
+OLD, COLOUR = 7, 5  # what every pixel has before, and what is drawn; as seen.antt has them
+
+
+def changed(record, changes):
+    """a copy of the record with some fields set, as {"codes.size": 3}"""
+    out = json.loads(json.dumps(record))
+    for path, value in changes.items():
+        at = out
+        *parts, last = path.split(".")
+        for part in parts:
+            at = at[part]
+        at[last] = value
+    return out
+
+
+def text_of(c):
+    piece, times = c.get("more", ["", 0])
+    return (c["text"] + piece * times).encode("latin-1")
+
+
+def ask(call, font, rec, c):
+    """(values, new buffer or None) of a call that is not refused"""
+    old = [OLD] * c.get("len", 0)
+    place = [old] + [c[k] for k in ("start", "stride", "scale") if k in c]
+    if call == "load":
+        return model.flat_record(model.load(font)), None
+    if call == "vet":
+        return model.flat_record(model.vet(font)), None
+    if call == "get_glyph":
+        return [model.get_glyph(font, rec, c["code"])], None
+    if call == "prop_at":
+        return model.prop_at(font, rec, c["i"]), None
+    if call == "get_name":
+        return model.get_name(font, rec, c["g"]), None
+    if call == "get_metrics":
+        return model.flat_metrics(model.get_metrics(font, rec, c["g"])), None
+    if call == "get_accelerators":
+        return model.flat_accel(model.get_accelerators(font, rec)), None
+    if call == "dimensions":
+        return model.dimensions(font, rec), None
+    if call == "prep_char":
+        return model.flat_info(model.prep_char(font, rec, c["code"])), None
+    if call == "draw_bitmap":
+        return model.draw_bitmap(font, rec, c["g"], c["width"], c["height"], *place, COLOUR)
+    if call == "draw_glyph":
+        return model.draw_glyph(font, rec, c["info"], *place, COLOUR)
+    if call == "draw_char":
+        (info, drawn, dropped), new = model.draw_char(font, rec, c["code"], *place, COLOUR)
+        return model.flat_info(info) + [drawn, dropped], new
+    if call == "draw_string":
+        return model.draw_string(font, rec, text_of(c), old, c["start"], c["wrap"], c["stride"], c["scale"], COLOUR)
+    if call == "unpack_glyph":
+        rows, new = model.unpack_glyph(font, rec, c["info"], *place)
+        return [rows], new
+    if call == "utf8_step":
+        step = model.utf8_step(text_of(c), c["i"])
+        return [0] if step is None else [1, *step], None
+    if call == "hex_read":
+        return [model.hex_read(text_of(c))], None
+    raise ValueError(call)
+
+
+def answer(font, rec, c):
+    """number, place, values, and index and value of each changed pixel in turn"""
+    try:
+        values, new = ask(c["call"], font, rec, c)
+    except model.Refused as e:
+        return e.number, e.place, [], []
+    pixels = [n for i, x in enumerate(new or []) if x != OLD for n in (i, x)]
+    return 0, 0, [int(v) for v in values], pixels

@@ -1,0 +1,28 @@
+"""The test that every call makes of the record that it is given (6)."""
+from model.refusal import Refused
+
+
+def check_record(b, rec):
+    n = len(b)
+    p, m, bm, c, na = rec["props"], rec["metrics"], rec["bitmaps"], rec["codes"], rec["names"]
+    regions = [
+        (p["records"], 9 * p["count"]),
+        (p["strings"], p["size"]),
+        (m["records"], (5 if m["compressed"] else 12) * m["count"]),
+        (bm["offsets"], 4 * bm["count"]),
+        (bm["bits"], bm["size"]),
+        (c["entries"], c["size"]),
+        (na["offsets"], 4 * na["count"]),
+        (na["strings"], na["size"]),
+    ]
+    for (start, length) in regions:
+        if start + length > n:
+            raise Refused(6)
+    if c["low2"] > c["high2"]:
+        raise Refused(6)
+    if c["low1"] > c["high1"]:
+        raise Refused(6)
+    if 2 * (c["high2"] - c["low2"] + 1) * (c["high1"] - c["low1"] + 1) > c["size"]:
+        raise Refused(6)
+    if bm["pad"] not in (1, 2, 4, 8):
+        raise Refused(6)
