@@ -22,6 +22,7 @@ MISC = "/usr/share/fonts/X11/misc"
 sys.path[:0] = [HERE, os.path.join(ROOT, "tests")]
 
 import tables  # noqa: E402
+from common import install  # noqa: E402
 from native import library  # noqa: E402
 from original import build  # noqa: E402
 from pcf import reading, twins  # noqa: E402
@@ -36,13 +37,13 @@ def tools():
     if not shutil.which("rt"):
         raise build.Missing("the Rattle kit's command 'rt' is not on the PATH")
     if not (shutil.which("gcc") and shutil.which("ar")):
-        build.install("gcc", "binutils")
+        install("gcc", "binutils")
 
 
 def debian_font(package, name):
     path = os.path.join(MISC, name)
     if not os.path.exists(path):
-        build.install(package)
+        install(package)
     if not os.path.exists(path):
         raise build.Missing("%s, of Debian's %s, is not there" % (name, package))
     with gzip.open(path) as f:
@@ -87,7 +88,7 @@ def said(*words):
 def callgrind(program, fonts, only):
     """instructions of a call, for each line and side; each call is counted twice, and has to repeat"""
     if not shutil.which("valgrind"):
-        build.install("valgrind")
+        install("valgrind")
     if not shutil.which("valgrind"):
         print("bench: instructions are not counted, because valgrind is not there", file=sys.stderr)
         return {}

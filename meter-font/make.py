@@ -10,6 +10,7 @@ import sys
 HERE = os.path.dirname(os.path.abspath(__file__))
 sys.path.insert(0, os.path.join(os.path.dirname(HERE), "tests"))
 
+from common import fail  # noqa: E402
 from pcf import tables  # noqa: E402
 from pcf.numbers import NO_GLYPH, TOP, lines  # noqa: E402
 
@@ -19,11 +20,6 @@ PROPERTIES = [("FONT", "Thalluskin Meter"), ("FAMILY_NAME", "Meter"), ("PIXEL_SI
               ("FONT_DESCENT", 3)]
 BASE = 7            # rows above the base line
 LEAST_UNLIKE = 5    # pixels in which any two digits differ
-
-
-def fail(text):
-    print(text)
-    sys.exit(1)
 
 
 # ---- the drawing

@@ -5,39 +5,18 @@ crates/dump reads, and for each file of crates/dump_files/data; and the files to
 With --write the data, the arguments and the outputs are stored anew."""
 import os
 import re
-import subprocess
 import sys
 
-HERE = os.path.dirname(os.path.abspath(__file__))
-TESTS = os.path.dirname(HERE)
-CRATES = os.path.join(os.path.dirname(TESTS), "crates")
-sys.path.insert(0, TESTS)
+sys.path.insert(0, os.path.dirname(os.path.dirname(os.path.abspath(__file__))))
 
 import model  # noqa: E402
+import stored  # noqa: E402
+from common import fail  # noqa: E402
 from dump import make  # noqa: E402
 from pcf import font_f  # noqa: E402
 
 # every number that a dump can print: the others are about calls that it does not make
 PRINTED = [1, 2, 3, 4, 5, 6, 7, 8, 10, 11, 12, 13, 14, 17, 18, 20]
-
-
-def path(*parts):
-    return os.path.join(CRATES, *parts)
-
-
-def read(*parts):
-    with open(path(*parts), "rb") as f:
-        return f.read()
-
-
-def store(content, *parts):
-    with open(path(*parts), "wb") as f:
-        f.write(content)
-
-
-def fail(text):
-    print(text)
-    sys.exit(1)
 
 
 def refused(output):
@@ -69,19 +48,11 @@ def main():
         ("dump_files", "args"): "".join(name + "\n" for name in inputs).encode(),
         ("dump_files", "stdout"): b"".join(b"== %s\n" % name.encode() + written[name] for name in inputs),
     }
-    if sys.argv[1:] == ["--write"]:
-        subprocess.run([sys.executable, os.path.join(HERE, "make.py")], check=True)
-        for parts, content in want.items():
-            store(content, *parts)
-    kept = sorted(os.listdir(path("dump_files", "data")))
-    if kept != sorted(inputs):
-        fail("crates/dump_files/data has %s, make.py makes %s" % (kept, sorted(inputs)))
-    for name, text in inputs.items():
-        if read("dump_files", "data", name) != text:
-            fail("crates/dump_files/data/%s is not what make.py makes" % name)
-    for parts, content in want.items():
-        if read(*parts) != content:
-            fail("crates/%s is not what the model says" % "/".join(parts))
+    write = sys.argv[1:] == ["--write"]
+    if write:
+        stored.store_data("dump_files", inputs)
+    stored.hold_data("dump_files", inputs)
+    stored.hold(want, write)
     refusals = sum(refused(output) is not None for output in written.values())
     print("dump: %d inputs are as made, %d of them refused; the outputs agree with the model" % (len(inputs), refusals))
 

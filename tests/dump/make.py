@@ -6,10 +6,9 @@ An input is named after what it shows; refused_NN_.. is one that is refused with
 import os
 import sys
 
-TESTS = os.path.dirname(os.path.dirname(os.path.abspath(__file__)))
-DATA = os.path.join(os.path.dirname(TESTS), "crates", "dump_files", "data")
-sys.path.insert(0, TESTS)
+sys.path.insert(0, os.path.dirname(os.path.dirname(os.path.abspath(__file__))))
 
+import stored  # noqa: E402
 from fonts import make as fonts  # noqa: E402
 from pcf import font_f, numbers  # noqa: E402
 from pcf.font_f import DIGITS, THREE  # noqa: E402
@@ -303,9 +302,4 @@ def files():
 
 
 if __name__ == "__main__":
-    os.makedirs(DATA, exist_ok=True)
-    for name in os.listdir(DATA):
-        os.remove(os.path.join(DATA, name))
-    for name, content in files().items():
-        with open(os.path.join(DATA, name), "wb") as out:
-            out.write(content)
+    stored.store_data("dump_files", files())

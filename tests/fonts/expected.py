@@ -9,19 +9,14 @@ import os
 import re
 import sys
 
-TESTS = os.path.dirname(os.path.dirname(os.path.abspath(__file__)))
-ROOT = os.path.dirname(TESTS)
-PROGRAM = os.path.join(ROOT, "crates", "inspect")
-sys.path.insert(0, TESTS)
+sys.path.insert(0, os.path.dirname(os.path.dirname(os.path.abspath(__file__))))
 
+import common  # noqa: E402
 import model  # noqa: E402
+import stored  # noqa: E402
+from common import fail  # noqa: E402
 from fonts import make  # noqa: E402
 from pcf.font_f import two_digits  # noqa: E402
-
-
-def read(*path):
-    with open(os.path.join(PROGRAM, *path), "rb") as f:
-        return f.read()
 
 
 def answer(words, question, *args):
@@ -174,39 +169,28 @@ def whole(name, font):
     return "\n".join(lines).encode("latin-1") + b"\n"
 
 
-def fail(text):
-    print(text)
-    sys.exit(1)
-
-
 def font_f():
     """font F as it stands in crates/promises/specs/FontF.antt"""
-    with open(os.path.join(ROOT, "crates", "promises", "specs", "FontF.antt"), encoding="utf-8") as f:
-        return bytes.fromhex("".join(re.findall(r'"([0-9A-F]+)"', f.read())))
+    text = common.read("crates", "promises", "specs", "FontF.antt")
+    return bytes.fromhex("".join(re.findall(r'"([0-9A-F]+)"', text)))
 
 
 def main():
     if two_digits() != font_f():
         fail("font F here is not the one of crates/promises/specs/FontF.antt")
     made = make.files()
-    kept = sorted(os.listdir(os.path.join(PROGRAM, "data")))
-    if kept != sorted(made):
-        fail("crates/inspect/data has %s, make.py makes %s" % (kept, sorted(made)))
-    for name in kept:
-        if read("data", name) != made[name]:
-            fail("crates/inspect/data/%s is not what make.py makes" % name)
-    named = read("args").decode().split()
-    if sorted(named) != kept:
+    stored.hold_data("inspect", made)
+    named = stored.read("inspect", "args").decode().split()
+    if sorted(named) != sorted(made):
         fail("crates/inspect/args does not name each file of data once")
-    text = b"".join(whole(name, read("data", name)) for name in named)
+    text = b"".join(whole(name, made[name]) for name in named)
     if sys.argv[1:] == ["--write"]:
-        with open(os.path.join(PROGRAM, "stdout"), "wb") as out:
-            out.write(text)
-    want, have = text.split(b"\n"), read("stdout").split(b"\n")
+        stored.store(text, "inspect", "stdout")
+    want, have = text.split(b"\n"), stored.read("inspect", "stdout").split(b"\n")
     for k in range(max(len(want), len(have))):
         if want[k:k + 1] != have[k:k + 1]:
             fail("line %d: the model says\n%s\ncrates/inspect/stdout has\n%s" % (k + 1, want[k:k + 1], have[k:k + 1]))
-    print("fonts: %d files are as made, %d lines agree with the model" % (len(kept), len(want) - 1))
+    print("fonts: %d files are as made, %d lines agree with the model" % (len(made), len(want) - 1))
 
 
 if __name__ == "__main__":

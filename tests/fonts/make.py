@@ -3,10 +3,9 @@
 import os
 import sys
 
-TESTS = os.path.dirname(os.path.dirname(os.path.abspath(__file__)))
-DATA = os.path.join(os.path.dirname(TESTS), "crates", "inspect", "data")
-sys.path.insert(0, TESTS)
+sys.path.insert(0, os.path.dirname(os.path.dirname(os.path.abspath(__file__))))
 
+import stored  # noqa: E402
 from pcf.font_f import DIGITS, THREE, two_digits  # noqa: E402
 from pcf.numbers import BIG, NO_GLYPH, TOP  # noqa: E402
 from pcf.rewriting import askew, with_bytes, with_offset, with_size  # noqa: E402
@@ -97,7 +96,4 @@ def files():
 
 
 if __name__ == "__main__":
-    os.makedirs(DATA, exist_ok=True)
-    for name, content in files().items():
-        with open(os.path.join(DATA, name), "wb") as out:
-            out.write(content)
+    stored.store_data("inspect", files())

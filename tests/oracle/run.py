@@ -16,6 +16,7 @@ import sys
 HERE = os.path.dirname(os.path.abspath(__file__))
 sys.path.insert(0, os.path.dirname(HERE))
 
+from common import install  # noqa: E402
 from native import library  # noqa: E402
 from original import build  # noqa: E402
 
@@ -29,7 +30,7 @@ def files(package):
     """the font files of a package, which is installed if it is missing"""
     for attempt in (False, True):
         if attempt:
-            build.install(package)
+            install(package)
         got = subprocess.run(["dpkg", "-L", package], stdout=subprocess.PIPE, stderr=subprocess.DEVNULL)
         named = sorted(name for name in got.stdout.decode().split() if name.endswith(".pcf.gz"))
         if named and all(map(os.path.exists, named)):

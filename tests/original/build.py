@@ -9,7 +9,8 @@ import re
 import shutil
 import subprocess
 
-ROOT = os.path.dirname(os.path.dirname(os.path.dirname(os.path.abspath(__file__))))
+from common import ROOT, install
+
 BESIDE = os.path.join(os.path.dirname(ROOT), "shared", "docs", "src", "crates", "gfx", "src", "format", "pcf.rs")
 BYTEMUCK = "/usr/share/cargo/registry/bytemuck-1.12.1/src/lib.rs"
 OLDEST = (1, 80)  # the first rustc that knows size_of, which 000 uses, without an import
@@ -25,13 +26,6 @@ def text():
     if not os.path.isfile(path):
         raise Missing("000's text is not there; THALLUSKIN_ORIGINAL may give its path")
     return path
-
-
-def install(*packages):
-    if shutil.which("apt-get"):
-        for words in (["update", "-q"], ["install", "-qy", *packages]):
-            subprocess.run(["apt-get", *words], stdin=subprocess.DEVNULL, stdout=subprocess.DEVNULL,
-                           stderr=subprocess.DEVNULL)
 
 
 def version():

@@ -6,11 +6,10 @@ With --write the input and the output are stored anew."""
 import os
 import sys
 
-TESTS = os.path.dirname(os.path.dirname(os.path.abspath(__file__)))
-PROGRAM = os.path.join(os.path.dirname(TESTS), "crates", "pages")
-sys.path.insert(0, TESTS)
+sys.path.insert(0, os.path.dirname(os.path.dirname(os.path.abspath(__file__))))
 
 import model  # noqa: E402
+import stored  # noqa: E402
 from pcf import font_f  # noqa: E402
 
 COLOUR = 1
@@ -36,21 +35,6 @@ PAGES = [
     ("not UTF-8", b"01\xe2\x82", 24, 6, None, 1, 7),
     ("scale over 64", b"0", 9, 3, None, 65, 7),
 ]
-
-
-def stored(name):
-    with open(os.path.join(PROGRAM, name), "rb") as f:
-        return f.read()
-
-
-def store(name, content):
-    with open(os.path.join(PROGRAM, name), "wb") as f:
-        f.write(content)
-
-
-def fail(text):
-    print(text)
-    sys.exit(1)
 
 
 def quoted(text):
@@ -80,13 +64,11 @@ def main():
     b = font_f.two_digits()
     rec = model.vet(b)
     pages = [page(b, rec, *p) for p in PAGES]
-    want = {"stdin": font_f.LINES.encode(), "stdout": b"".join(written for written, _ in pages)}
-    if sys.argv[1:] == ["--write"]:
-        for name, content in want.items():
-            store(name, content)
-    for name, content in want.items():
-        if stored(name) != content:
-            fail("crates/pages/%s is not what the model says" % name)
+    want = {
+        ("pages", "stdin"): font_f.LINES.encode(),
+        ("pages", "stdout"): b"".join(written for written, _ in pages),
+    }
+    stored.hold(want, sys.argv[1:] == ["--write"])
     print("pages: %d pages agree with the model, refused %s" % (
         len(pages), ", ".join("%d" % number for _, number in pages if number)))
 

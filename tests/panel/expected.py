@@ -7,13 +7,11 @@ import os
 import sys
 
 TESTS = os.path.dirname(os.path.dirname(os.path.abspath(__file__)))
-ROOT = os.path.dirname(TESTS)
-PROGRAM = os.path.join(ROOT, "crates", "panel")
-sys.path.insert(0, TESTS)
-sys.path.insert(0, os.path.join(ROOT, "meter-font"))
+sys.path[:0] = [TESTS, os.path.join(os.path.dirname(TESTS), "meter-font")]
 
 import make as meter  # noqa: E402
 import model  # noqa: E402
+import stored  # noqa: E402
 
 BLOCKS, PICTURE = 0, 1
 WIDTH, HEIGHT = 72, 21
@@ -48,18 +46,10 @@ def main():
     wrap = WIDTH + 1
     high, dropped, rows = drawn(font, WIDTH, HEIGHT, 1, wrap, TEXT)
     want = {
-        "stdin": request(BLOCKS, WIDTH, HEIGHT, 1, wrap, TEXT, font),
-        "stdout": half_blocks(rows) + b"dropped %d height %d\n" % (dropped, high),
+        ("panel", "stdin"): request(BLOCKS, WIDTH, HEIGHT, 1, wrap, TEXT, font),
+        ("panel", "stdout"): half_blocks(rows) + b"dropped %d height %d\n" % (dropped, high),
     }
-    for name, content in want.items():
-        path = os.path.join(PROGRAM, name)
-        if sys.argv[1:] == ["--write"]:
-            with open(path, "wb") as f:
-                f.write(content)
-        with open(path, "rb") as f:
-            if f.read() != content:
-                print("crates/panel/%s is not what the model says" % name)
-                sys.exit(1)
+    stored.hold(want, sys.argv[1:] == ["--write"])
     print("panel: %d pixels of %d set, as the model draws them" % (sum(map(sum, rows)), WIDTH * HEIGHT))
 
 

@@ -24,12 +24,11 @@ import sys
 import tempfile
 import time
 
-TESTS = os.path.dirname(os.path.dirname(os.path.abspath(__file__)))
-ROOT = os.path.dirname(TESTS)
-sys.path.insert(0, TESTS)
+sys.path.insert(0, os.path.dirname(os.path.dirname(os.path.abspath(__file__))))
 
+import common  # noqa: E402
+from common import ROOT, TESTS, install  # noqa: E402
 from native import library  # noqa: E402
-from original.build import install  # noqa: E402
 from pcf.rewriting import padded_to_8  # noqa: E402
 
 FONTS = ["xfonts-base", "xfonts-terminus", "xfonts-unifont"]
@@ -48,8 +47,7 @@ WIDE = b"SWIDTH 500 0\nDWIDTH 136 0\nBBX 136 1 0 0\nBITMAP\n%s\nENDCHAR\n\nENDFO
 
 
 def fail(text):
-    print("peers: " + text)
-    sys.exit(1)
+    common.fail("peers: " + text)
 
 
 # ---- what is needed
@@ -98,7 +96,7 @@ def names(bdf):
 
 
 def converted(words, what):
-    got = subprocess.run(words, stdout=subprocess.PIPE, stderr=subprocess.PIPE)
+    got = common.run(*words)
     if got.returncode != 0:
         fail("%s fails for %s\n%s" % (words[0], what, got.stderr.decode(errors="replace")))
     return got.stdout
