@@ -1,0 +1,23 @@
+"""Help, and the bench."""
+import re
+
+from command.script import expect, run
+from common import fail
+
+
+def helped(folder):
+    text = run("help", folder=folder).stdout
+    if any(b"thalluskin " + command not in text for command in (b"dump FONT.pcf", b"show TEXT", b"bench", b"help")):
+        fail("help does not name the commands")
+    for words in ([], ["help"], ["--help"], ["-h"], ["show", "--help"]):
+        expect("help by %s" % words, run(*words, folder=folder), 0, text, None)
+
+
+def benched(folder):
+    """the bench without times; the whole of it is for a quiet machine"""
+    for words in (["--slow"], ["--quick", "--write"], ["quick"], [""]):
+        got = run("bench", *words, folder=folder)
+        expect("bench %s" % words, got, 2, b"", "bench takes --quick, --write or nothing")
+    got = run("bench", "--quick", folder=folder)
+    words = rb"bench: (\d+ cases in which both sides agree, .*; not timed|not run, because .*)\n"
+    expect("a quick bench", got, 0, got.stdout if re.fullmatch(words, got.stdout) else b"bench: ..", None)
