@@ -1,4 +1,5 @@
-//! Links libthalluskin.a, from the folder that THALLUSKIN_LIB names or from the repository's target/staticlib.
+//! Links libthalluskin.a, from the folder that THALLUSKIN_LIB names or from the repository's target/staticlib. The latter
+//! is for x86-64; one for another 64-bit, little-endian Linux has to be named.
 use std::env;
 use std::path::PathBuf;
 use std::process::exit;
@@ -11,13 +12,17 @@ fn refuse(why: &str) -> ! {
 fn main() {
     println!("cargo:rerun-if-env-changed=THALLUSKIN_LIB");
     let target = |of: &str| env::var(format!("CARGO_CFG_TARGET_{}", of)).unwrap_or_default();
-    if (target("ARCH").as_str(), target("POINTER_WIDTH").as_str(), target("OS").as_str()) != ("x86_64", "64", "linux") {
-        refuse("libthalluskin.a is for 64-bit x86-64 Linux, and this build is for another target");
+    if ["OS", "POINTER_WIDTH", "ENDIAN"].map(target) != ["linux", "64", "little"] {
+        refuse("libthalluskin.a is for 64-bit, little-endian Linux, and this build is for another target");
     }
     let folder = match env::var_os("THALLUSKIN_LIB").map(PathBuf::from) {
         Some(folder) if folder.is_absolute() => folder,
         // this script and the linker run in other folders than the person who set it
         Some(folder) => refuse(&format!("THALLUSKIN_LIB is \"{}\", and has to be an absolute path", folder.display())),
+        None if target("ARCH") != "x86_64" => refuse(
+            "target/staticlib has libthalluskin.a for x86-64, and this build is for another target; THALLUSKIN_LIB may \
+             name the folder of one that was made for it",
+        ),
         None => {
             let here = env::var_os("CARGO_MANIFEST_DIR").map(PathBuf::from).unwrap_or_default();
             here.join("../../target/staticlib")

@@ -1,20 +1,15 @@
 """Calls of the exported functions, and what the model of document 01 answers to each."""
 import copy
-import os
-import sys
 
-TESTS = os.path.dirname(os.path.dirname(os.path.abspath(__file__)))
-sys.path.insert(0, TESTS)
-
-import model  # noqa: E402
-from draws import calls, expected  # noqa: E402
-from draws import make as draws  # noqa: E402
-from dump import make as dump  # noqa: E402
-from exports import layouts  # noqa: E402
-from fonts import make as fonts  # noqa: E402
-from pcf import tables  # noqa: E402
-from pcf.font_f import THREE, two_digits  # noqa: E402
-from pcf.numbers import BIG, TOP  # noqa: E402
+import model
+from draws import calls, expected
+from draws import make as draws
+from dump import make as dump
+from exports import layouts
+from fonts import make as fonts
+from pcf import tables
+from pcf.font_f import THREE, two_digits
+from pcf.numbers import BIG, TOP
 
 LAST = calls.LAST
 # as tests/exports/replay.c numbers them

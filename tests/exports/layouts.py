@@ -3,7 +3,8 @@ each is called in C and in Rust."""
 import os
 import re
 
-ROOT = os.path.dirname(os.path.dirname(os.path.dirname(os.path.abspath(__file__))))
+from common import ROOT, read
+
 CRATES = ["reads", "names", "tables", "place", "bitmaps", "text", "thalluskin"]
 
 # bytes, which are the alignment too, and the kind; numbers are little-endian
@@ -25,11 +26,6 @@ NUMBERS_IN_C = {"bool": "bool", "u8": "uint8_t", "u16": "uint16_t", "u32": "uint
                 "usize": "size_t", "i16": "int16_t", "i32": "int32_t"}
 SLICES_IN_C = {"&[u8]": "const uint8_t *", "&mut [u8]": "uint8_t *", "&mut [u32]": "uint32_t *"}
 IN_RUST = {"MetricsUnpacked": "Metrics", "AcceleratorUnpacked": "Accelerators"}  # the others have their own names
-
-
-def read(*parts):
-    with open(os.path.join(ROOT, *parts), encoding="utf-8") as f:
-        return f.read()
 
 
 def declared():
