@@ -1,4 +1,4 @@
-"""What the README says of the script and of Rattle."""
+"""What the README and docs/CALLS.md say of the script and of Rattle."""
 import re
 import shlex
 
@@ -19,14 +19,15 @@ def commands():
 
 
 def of_rattle():
-    """the README's lines of Rattle stand in crates/meter, which is proved and run"""
-    section = read("README.md").split("## Use from Rattle\n")[1].split("\n## ")[0]
+    """the lines of Rattle in the README and in docs/CALLS.md stand in crates/meter, which is proved and run"""
     example = read("crates", "meter", "src", "main.rt")
-    pieces = [piece for block in indented_blocks(section) for piece in block.split("\n\n")]
-    if not pieces:
-        fail("the README has no lines of Rattle")
-    for piece in pieces:
-        count()
-        if any(line + "\n" not in example for line in piece.splitlines()) or not (
-                piece.startswith("use ") or piece.strip() in example):
-            fail("the README has other lines of Rattle than crates/meter:\n" + piece)
+    for page, heading in (("README.md", "## Use from Rattle\n"), ("docs/CALLS.md", "## Reading\n")):
+        section = read(page).split(heading)[1].split("\n## ")[0]
+        pieces = [piece for block in indented_blocks(section) for piece in block.split("\n\n")]
+        if not pieces:
+            fail("%s has no lines of Rattle" % page)
+        for piece in pieces:
+            count()
+            if any(line + "\n" not in example for line in piece.splitlines()) or not (
+                    piece.startswith("use ") or piece.strip() in example):
+                fail("%s has other lines of Rattle than crates/meter:\n%s" % (page, piece))

@@ -3,7 +3,7 @@ import json
 
 import model
 
-OLD, COLOUR = 7, 5  # what every pixel has before, and what is drawn; as seen.antt has them
+OLD, COLOUR = 7, 5  # what every pixel has before, and what is drawn; as seen.txt has them
 
 
 def changed(record, changes):

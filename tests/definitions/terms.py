@@ -7,9 +7,9 @@ from definitions.answers import answer, changed, text_of
 
 NO_FONT = ("utf8_step", "hex_read", "dump")
 
-with open(os.path.join(os.path.dirname(os.path.abspath(__file__)), "seen.antt"), encoding="utf-8") as f:
+with open(os.path.join(os.path.dirname(os.path.abspath(__file__)), "seen.txt"), encoding="utf-8") as f:
     SEEN = f.read()
-OWN = re.findall(r"^(\w+) :", SEEN, re.M)  # what seen.antt defines
+OWN = re.findall(r"^(\w+) :", SEEN, re.M)  # what seen.txt defines
 
 
 def numbers(xs):
