@@ -1,0 +1,14 @@
+// What the programs share: words and numbers on standard output, the files that arguments name, and buffers
+// that have known values before a call.
+mod buffers;
+mod files;
+mod words;
+
+pub use buffers::fill_bytes;
+pub use buffers::fill_pixels;
+pub use buffers::told;
+pub use buffers::told_bytes;
+pub use files::file_of_argument;
+pub use words::number;
+pub use words::refusal;
+pub use words::say;
