@@ -11,4 +11,8 @@ pub use buffers::told_bytes;
 pub use files::file_of_argument;
 pub use words::number;
 pub use words::refusal;
+pub use words::refusal_line;
 pub use words::say;
+pub use words::say_short;
+pub use words::say_signed;
+pub use words::say_with;

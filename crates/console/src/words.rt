@@ -1,18 +1,116 @@
 // Words and numbers on standard output.
 use reads::Refusal;
+ghost use Prim.Native.Nat.{_≤_};
+ghost use lib.ListN.{length};
+
+// A number's place in a text.
+const MARK: u8 = b'#';
 
 pub fn say(text: &[u8]) {
     io::write_all(1, text);
 }
 
+fn digits(n: usize) {
+    io::print_decimal(1, n as u64);
+}
+
 // A label, and the number that it names.
 pub fn number(label: &[u8], n: usize) {
     say(label);
-    io::print_decimal(1, n as u64);
+    digits(n);
 }
 
 // With no line end.
 pub fn refusal(r: Refusal) {
     number(b"refused ", r.number as usize);
     number(b" at ", r.place);
+}
+
+pub fn refusal_line(r: Refusal) {
+    refusal(r);
+    say(b"\n");
+}
+
+// Where the next mark is, the text's end where there is none.
+fn next_mark(text: &[u8], from: usize) -> usize
+    requires { ⌜ from ≤ length (now text) ⌝ }
+    ensures { λ r. ⌜ (from ≤ r) × (r ≤ length (now (text .entry))) ⌝ }
+{
+    let mut at = from;
+    while at < text.len() {
+        if text[at] == MARK {
+            return at;
+        }
+        at += 1;
+    }
+    at
+}
+
+// The text up to the next mark; the answer is the place after the mark.
+fn say_to_mark(text: &[u8], from: usize) -> usize
+    requires { ⌜ from ≤ length (now text) ⌝ }
+    ensures { λ r. ⌜ r ≤ length (now (text .entry)) ⌝ }
+{
+    let at = next_mark(text, from);
+    say(&text[from..at]);
+    if at < text.len() {
+        return at + 1;
+    }
+    at
+}
+
+// The text with the numbers in it, each in the place of a `#`.
+pub fn say_with(text: &[u8], numbers: &[usize]) {
+    let mut from = 0;
+    let mut i = 0;
+    while i < numbers.len() {
+        from = say_to_mark(text, from);
+        digits(numbers[i]);
+        i += 1;
+    }
+    say(&text[from..]);
+}
+
+// A signed number without its sign. By way of -1 - n, since -n may not fit.
+fn unsigned(n: i32) -> usize {
+    if n < 0 {
+        let d = (-1 - n) as usize;
+        d + 1
+    } else {
+        n as usize
+    }
+}
+
+fn signed(n: i32) {
+    if n < 0 {
+        say(b"-");
+    }
+    digits(unsigned(n));
+}
+
+fn wide(n: i16) -> i32 {
+    n as i32
+}
+
+// The same with signed numbers, of four bytes and of two.
+pub fn say_signed(text: &[u8], numbers: &[i32]) {
+    let mut from = 0;
+    let mut i = 0;
+    while i < numbers.len() {
+        from = say_to_mark(text, from);
+        signed(numbers[i]);
+        i += 1;
+    }
+    say(&text[from..]);
+}
+
+pub fn say_short(text: &[u8], numbers: &[i16]) {
+    let mut from = 0;
+    let mut i = 0;
+    while i < numbers.len() {
+        from = say_to_mark(text, from);
+        signed(wide(numbers[i]));
+        i += 1;
+    }
+    say(&text[from..]);
 }

@@ -1,23 +1,8 @@
 // The dump of each file that an argument names: what `dump` writes for it, after its name.
-fn one(path: &[u8]) {
-    let fd = os::open_read(path);
-    if fd < 0 {
-        io::write_all(1, b"no file\n");
-        return;
-    }
-    let mut text = [0u8; 147457];
-    let n = io::read_full(fd, &mut text);
-    libc::close(fd);
-    dumper::print_dump(&text[..n]);
-}
-
 fn named(i: usize) {
-    let mut path = io::buffer();
-    let length = os::arg(i, &mut path);
-    io::write_all(1, b"== ");
-    io::write_all(1, &path[..length]);
-    io::write_all(1, b"\n");
-    one(&path[..length]);
+    let mut text = [0u8; 163840];
+    let n = console::file_of_argument(i, &mut text);
+    dumper::print_dump(&text[..n]);
 }
 
 // Up to 999 files: the bound lets the loop be seen to end.

@@ -1,6 +1,7 @@
 mod ProvedCases
 mod DumpF
 mod Unique
+mod UniqueConsole
 mod UniqueExports
 mod UniqueFont
 mod RecordTest

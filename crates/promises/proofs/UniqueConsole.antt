@@ -1,0 +1,24 @@
+-- Of each function that fills a buffer for the programs: its contract determines what it leaves there.
+use mathlib.Core.Path.{_≡_, refl, sym, _∙_}
+use mathlib.Core.List.{List}
+use Prim.Native.Nat.{ℕ}
+use native.Mathlib.Omega.{arith}
+use lib.Seq.{ext-getD}
+use denote.Ref.{now}
+use Rattle.console.specs.Before.{Filled}
+use Rattle.promises.specs.Unique.{FixesLent}
+use Rattle.console.proofs.fill_pixels.Kinds as fill-pixels-kinds
+use Rattle.console.proofs.fill_pixels.Reads as fill-pixels-reads
+use Rattle.console.proofs.fill_bytes.Kinds as fill-bytes-kinds
+use Rattle.console.proofs.fill_bytes.Reads as fill-bytes-reads
+
+same-filled : {old l₁ l₂ : List ℕ} → Filled old l₁ → Filled old l₂ → l₁ ≡ l₂
+same-filled {old} {l₁} {l₂} p q =
+    let same = p .same-length ∙ sym (q .same-length) in
+    ext-getD 0 l₁ l₂ same (λ i below. p .each i below ∙ sym (q .each i (omega arith)))
+
+pub fill-pixels-unique : FixesLent 1 fill-pixels-kinds.ps fill-pixels-kinds.r fill-pixels-reads.Post (λ κs x. now (x .0))
+fill-pixels-unique κs a r₁ r₂ x₁ x₂ p q = (refl, same-filled p q)
+
+pub fill-bytes-unique : FixesLent 1 fill-bytes-kinds.ps fill-bytes-kinds.r fill-bytes-reads.Post (λ κs x. now (x .0))
+fill-bytes-unique κs a r₁ r₂ x₁ x₂ p q = (refl, same-filled p q)
