@@ -13,6 +13,7 @@ pub use words::number;
 pub use words::refusal;
 pub use words::refusal_line;
 pub use words::say;
+pub use words::say_item;
 pub use words::say_short;
 pub use words::say_signed;
 pub use words::say_with;

@@ -3,8 +3,10 @@ use reads::Refusal;
 ghost use Prim.Native.Nat.{_≤_};
 ghost use lib.ListN.{length};
 
-// A number's place in a text.
+// A number's place in a text, and what stands between the texts of a list.
 const MARK: u8 = b'#';
+
+const BAR: u8 = b'|';
 
 pub fn say(text: &[u8]) {
     io::write_all(1, text);
@@ -31,17 +33,28 @@ pub fn refusal_line(r: Refusal) {
     say(b"\n");
 }
 
-// Where the next mark is, the text's end where there is none.
-fn next_mark(text: &[u8], from: usize) -> usize
+// Where this character comes next, the text's end where it does not.
+fn next_of(text: &[u8], from: usize, c: u8) -> usize
     requires { ⌜ from ≤ length (now text) ⌝ }
     ensures { λ r. ⌜ (from ≤ r) × (r ≤ length (now (text .entry))) ⌝ }
 {
     let mut at = from;
     while at < text.len() {
-        if text[at] == MARK {
+        if text[at] == c {
             return at;
         }
         at += 1;
+    }
+    at
+}
+
+// The place after this one, if the text goes on there.
+fn after(text: &[u8], at: usize) -> usize
+    requires { ⌜ at ≤ length (now text) ⌝ }
+    ensures { λ r. ⌜ r ≤ length (now (text .entry)) ⌝ }
+{
+    if at < text.len() {
+        return at + 1;
     }
     at
 }
@@ -51,12 +64,9 @@ fn say_to_mark(text: &[u8], from: usize) -> usize
     requires { ⌜ from ≤ length (now text) ⌝ }
     ensures { λ r. ⌜ r ≤ length (now (text .entry)) ⌝ }
 {
-    let at = next_mark(text, from);
+    let at = next_of(text, from, MARK);
     say(&text[from..at]);
-    if at < text.len() {
-        return at + 1;
-    }
-    at
+    after(text, at)
 }
 
 // The text with the numbers in it, each in the place of a `#`.
@@ -69,6 +79,25 @@ pub fn say_with(text: &[u8], numbers: &[usize]) {
         i += 1;
     }
     say(&text[from..]);
+}
+
+fn start_of(list: &[u8], which: usize) -> usize
+    ensures { λ r. ⌜ r ≤ length (now (list .entry)) ⌝ }
+{
+    let mut at = 0;
+    let mut k = 0;
+    while k < which {
+        at = after(list, next_of(list, at, BAR));
+        k += 1;
+    }
+    at
+}
+
+// One text of a list, by its number from 0, with the numbers in it. Bars divide the texts: `one|two|three`.
+pub fn say_item(list: &[u8], which: usize, numbers: &[usize]) {
+    let start = start_of(list, which);
+    let end = next_of(list, start, BAR);
+    say_with(&list[start..end], numbers);
 }
 
 // A signed number without its sign. By way of -1 - n, since -n may not fit.

@@ -1,17 +1,17 @@
 use Prim.Native.Nat.{_-_, _≤_}
 use lib.ListN.{length}
 use borrow.Author.Needs.{needs}
-use Rattle.console.proofs.words.next_mark.Statement.{statement}
-use Rattle.console.proofs.words.next_mark.Tie as tie
+use Rattle.console.proofs.words.next_of.Statement.{statement}
+use Rattle.console.proofs.words.next_of.Tie as tie
 
 abbrev Inv-loop : tie.InvT-loop
-Inv-loop text from at₀ at = (from ≤ at) × (at ≤ length text)
+Inv-loop text from c at₀ at = (from ≤ at) × (at ≤ length text)
 
 abbrev μ-loop : tie.MeasureT-loop
-μ-loop text from at₀ at = length text - at
+μ-loop text from c at₀ at = length text - at
 
-pub next-mark-spec : {M : Type 1} → statement M
-next-mark-spec =
+pub next-of-spec : {M : Type 1} → statement M
+next-of-spec =
     tie.close
     (tie.spec
     Inv-loop
