@@ -48,6 +48,27 @@ fn next_of(text: &[u8], from: usize, c: u8) -> usize
     at
 }
 
+// The text from here to the next mark; the answer is where the mark is.
+fn say_to_mark(text: &[u8], from: usize) -> usize
+    requires { ⌜ from ≤ length (now text) ⌝ }
+    ensures { λ r. ⌜ r ≤ length (now (text .entry)) ⌝ }
+{
+    let at = next_of(text, from, MARK);
+    say(&text[from..at]);
+    at
+}
+
+// The text with the numbers in it, each in the place of a `#`. It ends at a `#` that there is no number for.
+pub fn say_with(text: &[u8], numbers: &[usize]) {
+    let mut at = say_to_mark(text, 0);
+    let mut i = 0;
+    while i < numbers.len() && at < text.len() {
+        digits(numbers[i]);
+        at = say_to_mark(text, at + 1);
+        i += 1;
+    }
+}
+
 // The place after this one, if the text goes on there.
 fn after(text: &[u8], at: usize) -> usize
     requires { ⌜ at ≤ length (now text) ⌝ }
@@ -57,28 +78,6 @@ fn after(text: &[u8], at: usize) -> usize
         return at + 1;
     }
     at
-}
-
-// The text up to the next mark; the answer is the place after the mark.
-fn say_to_mark(text: &[u8], from: usize) -> usize
-    requires { ⌜ from ≤ length (now text) ⌝ }
-    ensures { λ r. ⌜ r ≤ length (now (text .entry)) ⌝ }
-{
-    let at = next_of(text, from, MARK);
-    say(&text[from..at]);
-    after(text, at)
-}
-
-// The text with the numbers in it, each in the place of a `#`.
-pub fn say_with(text: &[u8], numbers: &[usize]) {
-    let mut from = 0;
-    let mut i = 0;
-    while i < numbers.len() {
-        from = say_to_mark(text, from);
-        digits(numbers[i]);
-        i += 1;
-    }
-    say(&text[from..]);
 }
 
 fn start_of(list: &[u8], which: usize) -> usize
@@ -123,23 +122,21 @@ fn wide(n: i16) -> i32 {
 
 // The same with signed numbers, of four bytes and of two.
 pub fn say_signed(text: &[u8], numbers: &[i32]) {
-    let mut from = 0;
+    let mut at = say_to_mark(text, 0);
     let mut i = 0;
-    while i < numbers.len() {
-        from = say_to_mark(text, from);
+    while i < numbers.len() && at < text.len() {
         signed(numbers[i]);
+        at = say_to_mark(text, at + 1);
         i += 1;
     }
-    say(&text[from..]);
 }
 
 pub fn say_short(text: &[u8], numbers: &[i16]) {
-    let mut from = 0;
+    let mut at = say_to_mark(text, 0);
     let mut i = 0;
-    while i < numbers.len() {
-        from = say_to_mark(text, from);
+    while i < numbers.len() && at < text.len() {
         signed(wide(numbers[i]));
+        at = say_to_mark(text, at + 1);
         i += 1;
     }
-    say(&text[from..]);
 }
