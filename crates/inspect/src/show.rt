@@ -1,19 +1,23 @@
 // A font laid open for a person to read: every field of its record, then what each call answers
 // about it, as lines of text on standard output.
-use crate::answers::accelerators_answer;
-use crate::answers::code_line;
-use crate::answers::dimensions_line;
-use crate::answers::glyph_line;
+use crate::answers::ACCELERATORS;
+use crate::answers::CODE;
+use crate::answers::DIMENSIONS;
+use crate::answers::GLYPH;
+use crate::answers::NOTHING;
+use crate::answers::PROPERTY;
+use crate::answers::ask;
 use crate::answers::has_glyph;
-use crate::answers::prop_line;
-use crate::answers::refusal;
 use crate::parts::record_lines;
-use crate::words::numsize;
-use crate::words::say;
+use crate::wrong::BEYOND;
+use crate::wrong::WRONGS;
+use crate::wrong::wrong;
+use crate::wrong::wrong_words;
+use console::refusal_line;
+use console::say;
+use console::say_with;
 use load::Loaded;
 use load::load_pcf;
-use reads::CharCode;
-use reads::GlyphIndex;
 use tables::Record;
 
 // The first and the last code with a glyph so far. A code that has one is below 65,536, so that the
@@ -24,7 +28,10 @@ struct Seen {
     last: u16,
 }
 
-fn seen_too(seen: Seen, code: u16) -> Seen {
+fn seen_too(seen: Seen, code: u16, has_glyph: bool) -> Seen {
+    if !has_glyph {
+        return seen;
+    }
     if seen.any {
         return Seen {
             any: true,
@@ -39,16 +46,11 @@ fn seen_too(seen: Seen, code: u16) -> Seen {
     }
 }
 
-// The code's line, if it has a glyph.
-fn code_seen(bytes: &[u8], rec: Record, code: u16, seen: Seen) -> Seen {
-    let n = code as u32;
-    if has_glyph(bytes, rec, CharCode(n)) {
-        code_line(bytes, rec, CharCode(n));
-        return seen_too(seen, code);
-    }
-    seen
+fn kind_if(there: bool, kind: u32) -> u32 {
+    if there { kind } else { NOTHING }
 }
 
+// The lines of all codes that have a glyph.
 fn all_codes(bytes: &[u8], rec: Record) -> Seen {
     let mut seen = Seen {
         any: false,
@@ -57,129 +59,112 @@ fn all_codes(bytes: &[u8], rec: Record) -> Seen {
     };
     let mut code: u32 = 0;
     while code < 65536 {
-        seen = code_seen(bytes, rec, code as u16, seen);
+        let has = has_glyph(bytes, rec, code);
+        ask(bytes, rec, kind_if(has, CODE), code);
+        seen = seen_too(seen, code as u16, has);
         code += 1;
     }
     seen
 }
 
-// Three codes that have no glyph: the two beside those that have one, and one above 65,535 that
-// would be the first's if only its lower bytes counted.
-fn codes_without(bytes: &[u8], rec: Record, seen: Seen) {
-    let first = seen.first as u32;
-    let last = seen.last as u32;
-    if 0 < first {
-        code_line(bytes, rec, CharCode(first - 1));
-    }
-    code_line(bytes, rec, CharCode(last + 1));
-    code_line(bytes, rec, CharCode(65536 + first));
-}
-
-// Every property, and one number too many.
 fn all_props(bytes: &[u8], rec: Record) {
     let count = rec.props.count;
     let mut i: u32 = 0;
     while i < count {
-        prop_line(bytes, rec, i);
+        ask(bytes, rec, PROPERTY, i);
         i += 1;
     }
-    prop_line(bytes, rec, count);
 }
 
-// The first glyph without metrics, and the last number there is.
-fn glyphs_without(bytes: &[u8], rec: Record) {
-    let count = rec.metrics.count;
-    if count < 65536 {
-        glyph_line(bytes, rec, GlyphIndex(count as u16));
+// The answers to a list of questions: of each its kind, and what is asked for.
+fn answers(bytes: &[u8], rec: Record, asked: &[u32]) {
+    let mut i = 0;
+    while i + 1 < asked.len() {
+        ask(bytes, rec, asked[i], asked[i + 1]);
+        i += 2;
     }
-    glyph_line(bytes, rec, GlyphIndex(65535));
 }
 
-// The record with one thing broken, that the names' strings begin beyond the bytes: each call
-// refuses it.
-fn broken(bytes: &[u8], rec: Record, code: CharCode) {
-    let beyond = bytes.len() + 1;
-    let mut bad = rec;
-    bad.names.strings = beyond;
-    bad.names.size = 0;
-    numsize(b"the same record, the names' strings at ", beyond);
-    say(b", beyond the bytes:\n");
-    prop_line(bytes, bad, 0);
-    accelerators_answer(bytes, bad);
-    dimensions_line(bytes, bad);
-    code_line(bytes, bad, code);
-    glyph_line(bytes, bad, GlyphIndex(0));
+fn code_before(code: u16) -> u32 {
+    if 0 < code { code as u32 - 1 } else { 0 }
 }
 
-// One call with a record that is broken in another way: all calls make the same test.
-fn broken_otherwise(bytes: &[u8], what: &[u8], bad: Record) {
-    say(b"with ");
-    say(what);
-    say(b", ");
-    dimensions_line(bytes, bad);
-}
-
-fn broken_codes(bytes: &[u8], rec: Record) {
-    let mut second = rec;
-    second.codes.low2 = 1;
-    second.codes.high2 = 0;
-    broken_otherwise(bytes, b"second byte 1 to 0", second);
-    let mut first = rec;
-    first.codes.low1 = 1;
-    first.codes.high1 = 0;
-    broken_otherwise(bytes, b"first byte 1 to 0", first);
-    let mut short = rec;
-    short.codes.size = 1;
-    broken_otherwise(bytes, b"code entries of 1 byte", short);
-    let mut outside = rec;
-    outside.codes.entries = bytes.len();
-    broken_otherwise(bytes, b"code entries at the end", outside);
-}
-
-fn broken_bitmaps(bytes: &[u8], rec: Record) {
-    let mut pad = rec;
-    pad.bitmaps.pad = 3;
-    broken_otherwise(bytes, b"row pad 3", pad);
-    let mut offsets = rec;
-    offsets.bitmaps.offsets = bytes.len();
-    broken_otherwise(bytes, b"bitmap offsets at the end", offsets);
-    let mut bits = rec;
-    bits.bitmaps.bits = bytes.len();
-    broken_otherwise(bytes, b"bitmap data at the end", bits);
-}
-
-fn broken_others(bytes: &[u8], rec: Record) {
-    let mut metrics = rec;
-    metrics.metrics.records = bytes.len();
-    broken_otherwise(bytes, b"metrics at the end", metrics);
-    let mut names = rec;
-    names.names.offsets = bytes.len();
-    broken_otherwise(bytes, b"name offsets at the end", names);
-    let mut props = rec;
-    props.props.count = 4294967295;
-    broken_otherwise(bytes, b"4294967295 properties", props);
-    let mut strings = rec;
-    strings.props.size = 18446744073709551615;
-    broken_otherwise(
+// What is not there: three codes without a glyph, the two beside those that have one, and one above 65,535 that
+// would be the first's if only its lower bytes counted; the first glyph without metrics, and the last number
+// there is.
+fn absent(bytes: &[u8], rec: Record, seen: Seen) {
+    let code = kind_if(seen.any, CODE);
+    let first = seen.first as u32;
+    let last = seen.last as u32;
+    let glyphs = rec.metrics.count;
+    answers(
         bytes,
-        b"property strings of 18446744073709551615 bytes",
-        strings,
+        rec,
+        &[
+            kind_if(0 < first, code),
+            code_before(seen.first),
+            code,
+            last + 1,
+            code,
+            65536 + first,
+            kind_if(glyphs < 65536, GLYPH),
+            glyphs,
+            GLYPH,
+            65535,
+        ],
     );
 }
 
+// A record whose names' strings begin beyond the bytes: each call refuses it.
+fn each_refuses(bytes: &[u8], rec: Record, code: u16) {
+    let beyond = bytes.len() + 1;
+    say_with(
+        b"the same record, the names' strings at #, beyond the bytes:\n",
+        &[beyond],
+    );
+    let bad = wrong(rec, BEYOND, beyond);
+    answers(
+        bytes,
+        bad,
+        &[
+            PROPERTY,
+            0,
+            ACCELERATORS,
+            0,
+            DIMENSIONS,
+            0,
+            CODE,
+            code as u32,
+            GLYPH,
+            0,
+        ],
+    );
+}
+
+// One call with each record that is wrong in another way: all calls make the same test.
+fn each_wrong(bytes: &[u8], rec: Record) {
+    let mut which: u8 = 0;
+    while which < WRONGS {
+        say(b"with ");
+        wrong_words(which);
+        say(b", ");
+        ask(bytes, wrong(rec, which, bytes.len()), DIMENSIONS, 0);
+        which += 1;
+    }
+}
+
+// Every property, and one number too many; then the other answers.
 fn answers_lines(bytes: &[u8], rec: Record) {
     all_props(bytes, rec);
-    accelerators_answer(bytes, rec);
-    dimensions_line(bytes, rec);
+    answers(
+        bytes,
+        rec,
+        &[PROPERTY, rec.props.count, ACCELERATORS, 0, DIMENSIONS, 0],
+    );
     let seen = all_codes(bytes, rec);
-    if seen.any {
-        codes_without(bytes, rec, seen);
-    }
-    glyphs_without(bytes, rec);
-    broken(bytes, rec, CharCode(seen.first as u32));
-    broken_codes(bytes, rec);
-    broken_bitmaps(bytes, rec);
-    broken_others(bytes, rec);
+    absent(bytes, rec, seen);
+    each_refuses(bytes, rec, seen.first);
+    each_wrong(bytes, rec);
 }
 
 // Writes all there is to say of a font's bytes, or the refusal of them.
@@ -190,9 +175,6 @@ pub(crate) fn show(bytes: &[u8]) {
             record_lines(rec);
             answers_lines(bytes, rec);
         }
-        Loaded::Refused(r) => {
-            refusal(r);
-            say(b"\n");
-        }
+        Loaded::Refused(r) => refusal_line(r),
     }
 }

@@ -9,41 +9,17 @@ Inv-loop i₀ i = Unit {0}
 abbrev μ-loop : tie.MeasureT-loop
 μ-loop i₀ i = 1000 - i
 
-loop-holds : tie.Need-loop-holds Inv-loop μ-loop
-loop-holds c = search needs
-
-arg-count-requires : tie.Need-arg-count-requires Inv-loop μ-loop
-arg-count-requires c κs = search needs
-
-named-requires : tie.Need-named-requires Inv-loop μ-loop
-named-requires c κs = search needs
-
-add-i : tie.Need-add-i Inv-loop μ-loop
-add-i c = search needs
-
-loop-less : tie.Need-loop-less Inv-loop μ-loop
-loop-less c = search needs
-
-loop-again : tie.Need-loop-again Inv-loop μ-loop
-loop-again c = search needs
-
-returns : tie.Need-returns Inv-loop μ-loop
-returns c = search needs
-
-returns-2 : tie.Need-returns-2 Inv-loop μ-loop
-returns-2 c = search needs
-
 pub main-spec : {M : Type 1} → statement M
 main-spec =
     tie.close
     (tie.spec
     Inv-loop
     μ-loop
-    loop-holds
-    arg-count-requires
-    named-requires
-    add-i
-    loop-less
-    loop-again
-    returns
-    returns-2)
+    (λ c. search needs)  -- loop-holds
+    (λ c κs. search needs)  -- arg-count-requires
+    (λ c κs. search needs)  -- named-requires
+    (λ c. search needs)  -- add-i
+    (λ c. search needs)  -- loop-less
+    (λ c. search needs)  -- loop-again
+    (λ c. search needs)  -- returns
+    (λ c. search needs))  -- returns-2
