@@ -2,14 +2,14 @@
 import copy
 
 import model
-from draws import calls, expected
-from draws import make as draws
 from dump import make as dump
 from exports import layouts
 from fonts import make as fonts
 from pcf import tables
 from pcf.font_f import THREE, two_digits
 from pcf.numbers import BIG, TOP
+from replay import calls, expected
+from replay import make as replay
 
 LAST = calls.LAST
 # as tests/exports/replay.c numbers them
@@ -111,8 +111,8 @@ def encoded(c, same_font):
 
 
 def drawn():
-    """every call of the program crates/draws whose function is exported, a text's also as a dry run"""
-    for sections in draws.inputs().values():
+    """every call of the program crates/replay, but for the recorded ones, whose function is exported, a text's also as a dry run"""
+    for sections in replay.drawn().values():
         for b, of_font in sections:
             try:
                 rec = model.load(b)

@@ -1,46 +1,18 @@
-"""What 000 is asked, file by file: fonts, and calls about each. A call is a dictionary of its arguments; those that a
-call does not take are left out. crates/recorded/src/items.rt says where in an item each argument stands.
+"""What 000 is asked, file by file: fonts, and calls about each, in the form of replay/calls.py.
 
 Not asked is what docs/DIFFERENCES.md lists, where the port departs from 000 on purpose: so codes above 65,535 are none
 whose lower bytes have a glyph, no row whose width is a multiple of 8 ends the data, no directory has over 64
 entries, and no text has a code below the table's first one. Nor is a value that refusal 11 refuses, where 000
 answers it."""
 import random
-import struct
 
 from pcf.numbers import BIG, TOP
 from recorded import twins
-
-KINDS = ["font", "load_pcf", "prop_at", "get_glyph", "get_name", "get_metrics", "dimensions", "prep_char",
-         "draw_bitmap", "draw_glyph", "draw_char", "unpack_glyph", "draw_string"]
-HEAD = "<BBHIHHHHIIIIIIQIIII"
-MOST = 4096  # pixels of the longest buffer
-COLOURS = (0xffffff, 1, 0x80000000, 0x12345678)
+from replay import calls
 
 
-# ---- items
-
-
-def item(kind, given=b"", glyph=0, code=0, width=0, height=0, top=0, left=0, colour=0, size=0, start=0, stride=0,
-         scale=0, wrap=None):
-    assert size <= MOST
-    return struct.pack(HEAD, KINDS.index(kind), 0, glyph, code, width, height, top, left, colour, size, start, stride,
-                       scale, wrap is not None, wrap or 0, len(given), 0, 0, 0) + given
-
-
-def held(font, calls):
-    """a font and the calls about it, each call's colour one of a few in turn"""
-    drawn = 0
-    yield item("font", font)
-    for call in calls:
-        if "stride" in call and call["kind"] != "unpack_glyph":
-            call = dict(call, colour=COLOURS[drawn % 4])
-            drawn += 1
-        yield item(**call)
-
-
-def asks(kind, **arguments):
-    return dict(kind=kind, **arguments)
+def asks(call, **arguments):
+    return dict(call=call, **arguments)
 
 
 # ---- reading
@@ -54,63 +26,61 @@ def reading(codes=(), glyphs=(), properties=(), placed=3):
     for code in codes:
         yield asks("get_glyph", code=code)
     for code in codes[:placed]:
-        yield asks("prep_char", code=code)
-    for glyph in glyphs:
-        yield asks("get_name", glyph=glyph)
-        yield asks("get_metrics", glyph=glyph)
+        yield calls.prep(code)
+    for number in glyphs:
+        yield asks("get_name", g=number)
+        yield asks("get_metrics", g=number)
     for number in properties:
         yield asks("prop_at", code=number)
 
 
 def readings():
     digit = [0x30, 0x31, 0x2f, 0x32, 0x33, 0x34, 0xffff, 0x10030, 0x10ffff]
-    yield from held(twins.digits(), [*LOADS, *reading(digit, (0, 1, 2, 65535), (0, 1, 4294967295))])
+    yield twins.digits(), [*LOADS, *reading(digit, (0, 1, 2, 65535), (0, 1, 4294967295))]
     pairs = [0x2030, 0x2031, 0x2032, 0x2130, 0x2131, 0x2132, 0x202f, 0x2033, 0x1f30, 0x2230, 0x2430, 0x30, 0x3020,
              0x12041]
-    yield from held(twins.big_two_byte(), [*LOADS, *reading(pairs, range(6), range(6), 7)])
+    yield twins.big_two_byte(), [*LOADS, *reading(pairs, range(6), range(6), 7)]
     for pad, form in ((1, BIG), (2, 0), (4, BIG), (8, 0)):
-        yield from held(twins.widths(pad, form), [*LOADS, *reading((0x4e, 0x4f), (13,), range(3), 1)])
+        yield twins.widths(pad, form), [*LOADS, *reading((0x4e, 0x4f), (13,), range(3), 1)]
     letters = (0x41, 0x42, 0x43, 0x30, 0x44)
-    yield from held(twins.repeated(256), [*LOADS, *reading(letters, range(4), range(3))])
-    yield from held(twins.repeated(2), [*LOADS, *reading(letters[:1])])
-    yield from held(twins.askew(), [*LOADS, *reading((0x61, 0x62), (0, 1), (0, 1))])
-    yield from held(twins.sizes_beyond(), [*LOADS, *reading((0x30, 0x31), (1, 2), (0,))])
-    names = (asks("get_name", glyph=number) for number in range(8))
-    yield from held(twins.strings_broken(), [*LOADS, *reading(properties=range(10)), *names])
-    yield from held(twins.few(), [*LOADS, *reading(range(0x41, 0x49), (0, 1, 5, 6), placed=8)])
-    yield from held(twins.not_drawn(0), [*LOADS, *reading((0x30, 0x31))])
+    yield twins.repeated(256), [*LOADS, *reading(letters, range(4), range(3))]
+    yield twins.repeated(2), [*LOADS, *reading(letters[:1])]
+    yield twins.askew(), [*LOADS, *reading((0x61, 0x62), (0, 1), (0, 1))]
+    yield twins.sizes_beyond(), [*LOADS, *reading((0x30, 0x31), (1, 2), (0,))]
+    names = (asks("get_name", g=number) for number in range(8))
+    yield twins.strings_broken(), [*LOADS, *reading(properties=range(10)), *names]
+    yield twins.few(), [*LOADS, *reading(range(0x41, 0x49), (0, 1, 5, 6), placed=8)]
+    yield twins.not_drawn(0), [*LOADS, *reading((0x30, 0x31))]
     for form, n in ((BIG, 3), (0, 0)):
-        yield from held(twins.wide(form, n), reading(range(0x30, 0x33), (0, 1, 2, 5), placed=2))
+        yield twins.wide(form, n), reading(range(0x30, 0x33), (0, 1, 2, 5), placed=2)
     for ascent, descent in ((32767, 1), (16384, 16384), (3, 32767)):
-        yield from held(twins.high_bounds(ascent, descent), [*LOADS, *reading()])
+        yield twins.high_bounds(ascent, descent), [*LOADS, *reading()]
 
 
 def damages():
     for bytes_ in twins.damaged():
-        yield from held(bytes_, LOADS)
+        yield bytes_, LOADS
 
 
 # ---- drawing
 
 
 def bitmap(glyph, width, height, size, start, stride, scale):
-    return asks("draw_bitmap", glyph=glyph, width=width, height=height, size=size, start=start, stride=stride,
-                scale=scale)
+    return calls.bitmap(glyph, width, height, size, stride, scale, start)
 
 
-def glyph(number, box, size, start, stride, scale=None):
+def glyph(number, sides, size, start, stride, scale=None):
     """a placed glyph to draw, or to unpack where there is no scale"""
-    width, height, top, left = box
-    placed = dict(glyph=number, width=width, height=height, top=top, left=left, size=size, start=start, stride=stride)
-    return asks("unpack_glyph", **placed) if scale is None else asks("draw_glyph", **placed, scale=scale)
+    info = calls.box(number, *sides)
+    return calls.unpack(info, size, stride, start) if scale is None else calls.glyph(info, size, stride, scale, start)
 
 
 def char(code, size, start, stride, scale):
-    return asks("draw_char", code=code, size=size, start=start, stride=stride, scale=scale)
+    return calls.char(code, size, stride, scale, start)
 
 
 def text(content, size, stride, scale=1, start=0, wrap=None):
-    return asks("draw_string", given=content.encode(), size=size, start=start, stride=stride, scale=scale, wrap=wrap)
+    return calls.text(content.encode(), size, stride, scale, start, wrap)
 
 
 def digit_drawings():
@@ -188,22 +158,22 @@ def not_drawings():
 
 
 def drawings():
-    yield from held(twins.digits(), [*digit_drawings(), *cuts()])
+    yield twins.digits(), [*digit_drawings(), *cuts()]
     for pad, form in ((1, BIG), (2, 0), (4, BIG), (8, 0)):
-        yield from held(twins.widths(pad, form), wide_drawings(pad))
-    yield from held(twins.big_two_byte(), (char(code, 260, 2, 20, scale) for scale in (1, 2)
-                                           for code in (0x2030, 0x2031, 0x2032, 0x2130, 0x2131, 0x2132)))
+        yield twins.widths(pad, form), wide_drawings(pad)
+    yield twins.big_two_byte(), (char(code, 260, 2, 20, scale) for scale in (1, 2)
+                                 for code in (0x2030, 0x2031, 0x2032, 0x2130, 0x2131, 0x2132))
     for kind in (2, 256):
-        yield from held(twins.repeated(kind), (char(code, 300, 0, 17, 3) for code in (0x41, 0x42, 0x43, 0x30)))
-    yield from held(twins.askew(), [char(0x61, 120, 4, 40, 1), char(0x61, 120, 4, 40, 2), text("aa\na", 400, 41)])
-    yield from held(twins.sizes_beyond(), [char(0x31, 9, 0, 3, 1), text("01", 36, 6, wrap=6)])
-    yield from held(twins.few(), few_drawings())
+        yield twins.repeated(kind), (char(code, 300, 0, 17, 3) for code in (0x41, 0x42, 0x43, 0x30))
+    yield twins.askew(), [char(0x61, 120, 4, 40, 1), char(0x61, 120, 4, 40, 2), text("aa\na", 400, 41)]
+    yield twins.sizes_beyond(), [char(0x31, 9, 0, 3, 1), text("01", 36, 6, wrap=6)]
+    yield twins.few(), few_drawings()
     for form in (0, TOP | 16, 48):
-        yield from held(twins.not_drawn(form), not_drawings())
-    yield from held(twins.wide(BIG, 3), [*(char(0x30 + k, 130, 0, 13, 1) for k in range(4)), text("01\n2", 200, 14)])
-    yield from held(twins.wide(0, 0), [char(0x30, 9, 0, 3, 1), text("01\n0", 9, 3)])
+        yield twins.not_drawn(form), not_drawings()
+    yield twins.wide(BIG, 3), [*(char(0x30 + k, 130, 0, 13, 1) for k in range(4)), text("01\n2", 200, 14)]
+    yield twins.wide(0, 0), [char(0x30, 9, 0, 3, 1), text("01\n0", 9, 3)]
     for ascent, descent in ((32767, 1), (32766, 1)):
-        yield from held(twins.high_bounds(ascent, descent), [text("", 9, 3), text("\n", 9, 3), text("0", 9, 3)])
+        yield twins.high_bounds(ascent, descent), [text("", 9, 3), text("\n", 9, 3), text("0", 9, 3)]
 
 
 # ---- texts
@@ -260,15 +230,17 @@ def by_lot(seed, alphabet, count):
 
 
 def texts():
-    yield from held(twins.digits(), digit_texts())
-    yield from held(twins.letters(), [*LOADS, *breaks(), *narrow(), *by_lot(1, "AABBEOS\xe9J\n\r \u20ac", 24)])
-    yield from held(twins.big_two_byte(), (
+    yield twins.digits(), digit_texts()
+    yield twins.letters(), [*LOADS, *breaks(), *narrow(), *by_lot(1, "AABBEOS\xe9J\n\r \u20ac", 24)]
+    yield twins.big_two_byte(), (
         text(content, 400, 20, scale, wrap=wrap) for content in (
             "\u2030\u2132", "\u2030\u2031\u2132\n\u2130", "\u2131\u2132 \u2230\u2030", "0\u20302\U0001f600\u2032")
-        for scale, wrap in ((1, None), (1, 9), (2, 20))))
+        for scale, wrap in ((1, None), (1, 9), (2, 20)))
 
 
-def files():
-    """name and content of each file, its answers not filled in"""
-    made = {"reading": readings(), "damaged": damages(), "drawing": drawings(), "texts": texts()}
-    return {name + ".cases": b"".join(items) for name, items in made.items()}
+def topics():
+    """a file's name, and its fonts with their calls"""
+    yield "recorded_reading", readings()
+    yield "recorded_damaged", damages()
+    yield "recorded_drawing", drawings()
+    yield "recorded_texts", texts()

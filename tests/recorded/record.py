@@ -1,29 +1,25 @@
 #!/usr/bin/env python3
-"""Writes crates/recorded/data: a sample of 000's answers, which the proved program crates/recorded holds the port to
-wherever the kit is, with 000's text or without.
+"""Writes answers/: a sample of 000's answers, to which run.py holds the port with 000's text or without.
 
-The sample was made by this script and is remade by it. questions.py makes fonts (twins.py) and calls about them;
-record.rs, linked with 000 as tests/original/build.py builds it, with overflow checks, makes each call and writes down
-what came of it: the values, that 000 answered None or Err, or that it panicked; and after a call that drew, which
-pixels of the buffer have the colour. Nothing else is in the files, and nothing of 000's text.
+The sample was made by this script and is remade by it. questions.py makes calls on fonts (twins.py), which are files of
+crates/replay/data too; record.rs, linked with 000 as tests/original/build.py builds it, with overflow checks, makes
+each call and writes down what came of it: the values, that 000 answered None or Err, or that it panicked; and after a
+call that drew, which pixels of the buffer have the colour. Nothing else is in the files, and nothing of 000's text.
 
-With --check nothing is written: the answers are recorded anew and compared with the files byte for byte. The stdout
-that the program has to write follows from the files, since every case has to agree."""
+With --check nothing is written: the answers are recorded anew and compared with the files byte for byte."""
 import os
-import struct
 import subprocess
 import sys
 import tempfile
 
 HERE = os.path.dirname(os.path.abspath(__file__))
 TESTS = os.path.dirname(HERE)
-ROOT = os.path.dirname(TESTS)
-PROGRAM = os.path.join(ROOT, "crates", "recorded")
-FOLDER = os.path.join(ROOT, "target", "recorded")
+FOLDER = os.path.join(os.path.dirname(TESTS), "target", "recorded")
+ANSWERS = os.path.join(HERE, "answers")
 sys.path.insert(0, TESTS)
 
 from original import build  # noqa: E402
-from recorded import questions  # noqa: E402
+from replay import calls, make  # noqa: E402
 
 
 def recorder():
@@ -37,95 +33,60 @@ def recorder():
 
 
 def recorded():
-    """the files with 000's answers"""
+    """the files of 000's answers"""
     program, made = recorder(), {}
     with tempfile.TemporaryDirectory() as folder:
         asked, answered = os.path.join(folder, "asked"), os.path.join(folder, "answered")
-        for name, content in questions.files().items():
+        for name, sections in make.recorded().items():
             with open(asked, "wb") as f:
-                f.write(content)
+                f.write(calls.content(sections))
             subprocess.run([program, asked, answered], check=True)
             with open(answered, "rb") as f:
-                made[name] = f.read()
+                made[name.replace(".calls", ".txt")] = f.read()
     return made
 
 
-def cases(content):
-    """the items of a file that are no fonts: kind, what 000 did, and the place"""
-    at = 0
-    while at < len(content):
-        kind, outcome, *_, given, values, pixels, _ = struct.unpack_from(questions.HEAD, content, at)
-        if kind:
-            yield questions.KINDS[kind], outcome, at
-        at += struct.calcsize(questions.HEAD) + given + values + pixels
-
-
-def expected(files):
-    """what the program writes if every case agrees"""
-    lines = []
-    for name, content in files.items():
-        lines.append("== " + name)
-        for kind in questions.KINDS[1:]:
-            done = [sum((k, o) == (kind, n) for k, o, _ in cases(content)) for n in range(3)]
-            if any(done):
-                lines.append("%-12s %d cases, %d agree (000 returned %d, answered nothing %d, did not return %d)" % (
-                    kind, sum(done), sum(done), *done))
-        lines.append("in all %d cases, %d agree" % ((len(list(cases(content))),) * 2))
-    return "".join(line + "\n" for line in lines).encode()
-
-
-def read(*parts):
-    with open(os.path.join(PROGRAM, *parts), "rb") as f:
-        return f.read()
-
-
-def write(content, *parts):
-    with open(os.path.join(PROGRAM, *parts), "wb") as f:
-        f.write(content)
-
-
 def stored():
-    """the files that the program is run on, in its order"""
-    return {name: read("data", name) for name in read("args").decode().split()}
+    made = {}
+    for name in os.listdir(ANSWERS):
+        with open(os.path.join(ANSWERS, name), "rb") as f:
+            made[name] = f.read()
+    return made
 
 
 def difference(name, kept, made):
-    """the first case that a stored file does not have as it is recorded now"""
-    for number, (kind, _, at) in enumerate(cases(made), 1):
-        size = 64 + sum(struct.unpack_from("<III", made, at + 48))
-        if made[at:at + size] != kept[at:at + size]:
-            return "%s: case %d, %s, is not what 000 answers" % (name, number, kind)
-    return None if made == kept else "%s: not the fonts and cases that questions.py makes" % name
+    """the first line that a stored file does not have as it is recorded now"""
+    for number, (old, new) in enumerate(zip(kept.splitlines(), made.splitlines()), 1):
+        if old != new:
+            return "%s, line %d, is not what 000 answers" % (name, number)
+    return None if kept == made else "%s has not as many lines as there are fonts and calls" % name
 
 
 def differences(kept, made):
-    if list(kept) != list(made) or set(kept) != set(os.listdir(os.path.join(PROGRAM, "data"))):
-        yield "args, data: not the files that questions.py makes"
+    if sorted(kept) != sorted(made):
+        yield "answers: not the files that questions.py asks about"
     yield from filter(None, (difference(name, kept.get(name, b""), made[name]) for name in made))
 
 
-def fail(told):
-    print("recorded: " + told)
-    sys.exit(1)
+def cases(files):
+    return sum(not line.startswith(b"font of") for content in files.values() for line in content.splitlines())
 
 
 def check():
     kept = stored()
-    if read("stdout") != expected(kept):
-        fail("crates/recorded/stdout does not say of every case in the files that it agrees")
     for told in differences(kept, recorded()):
-        fail(told)
-    print("recorded: %d cases, the files are 000's answers" % sum(len(list(cases(c))) for c in kept.values()))
+        print("recorded: " + told)
+        sys.exit(1)
+    print("recorded: %d cases, the files are 000's answers" % cases(kept))
 
 
 def remake():
     made = recorded()
-    os.makedirs(os.path.join(PROGRAM, "data"), exist_ok=True)
+    os.makedirs(ANSWERS, exist_ok=True)
     for name, content in made.items():
-        write(content, "data", name)
-    write("".join(name + "\n" for name in made).encode(), "args")
-    write(expected(made), "stdout")
-    print(expected(made).decode(), end="")
+        with open(os.path.join(ANSWERS, name), "wb") as f:
+            f.write(content)
+    print("recorded: %d cases" % cases(made))
 
 
 if __name__ == "__main__":

@@ -1,0 +1,81 @@
+// Answers in words, with no line end.
+use bitmaps::Drawn;
+use bitmaps::Rows;
+use bitmaps::Unpacked;
+use console::number;
+use console::refusal;
+use console::say;
+use console::say_with;
+use glyphs::CharDrawn;
+use place::GlyphInfo;
+use place::Prepared;
+use text::TextDrawn;
+use utf8::Step;
+
+fn row_words(rows: Rows) {
+    say_with(
+        b"drawn #, dropped #",
+        &[rows.drawn as usize, rows.dropped as usize],
+    );
+}
+
+fn info_words(i: GlyphInfo) {
+    let g = i.glyph;
+    say_with(
+        b"glyph #, width #, height #, pad top #, pad left #",
+        &[
+            g.0 as usize,
+            i.width as usize,
+            i.height as usize,
+            i.pad_top as usize,
+            i.pad_left as usize,
+        ],
+    );
+}
+
+pub(crate) fn drawn(answer: Drawn) {
+    match answer {
+        Drawn::Rows(rows) => row_words(rows),
+        Drawn::Refused(r) => refusal(r),
+    }
+}
+
+pub(crate) fn char_drawn(answer: CharDrawn) {
+    match answer {
+        CharDrawn::Glyph(info, rows) => {
+            info_words(info);
+            say(b", ");
+            row_words(rows);
+        }
+        CharDrawn::Refused(r) => refusal(r),
+    }
+}
+
+pub(crate) fn unpacked(answer: Unpacked) {
+    match answer {
+        Unpacked::Rows(n) => number(b"rows ", n as usize),
+        Unpacked::Refused(r) => refusal(r),
+    }
+}
+
+pub(crate) fn text_drawn(answer: TextDrawn) {
+    match answer {
+        TextDrawn::Done(rows) => say_with(b"height #, dropped #", &[rows.height, rows.dropped]),
+        TextDrawn::Refused(r) => refusal(r),
+    }
+}
+
+pub(crate) fn stepped(answer: Step) {
+    match answer {
+        Step::Char(code, next) => say_with(b"code #, next #", &[code.0 as usize, next]),
+        Step::End => say(b"end"),
+        Step::Refused(r) => refusal(r),
+    }
+}
+
+pub(crate) fn prepared(answer: Prepared) {
+    match answer {
+        Prepared::Info(info) => info_words(info),
+        Prepared::Refused(r) => refusal(r),
+    }
+}

@@ -1,0 +1,80 @@
+// The calls that read. An answer is its numbers, with no line end.
+use crate::calls::DIMENSIONS;
+use crate::calls::LOOKUP;
+use crate::calls::METRICS;
+use crate::calls::NAME;
+use crate::calls::PROP;
+use crate::calls::code_at;
+use crate::calls::glyph_at;
+use crate::calls::kind_at;
+use crate::calls::number_at;
+use crate::record::measures;
+use crate::record::record_words;
+use console::number;
+use console::refusal;
+use console::say_with;
+use lookup::Found;
+use metrics::Measured;
+use names::Named;
+use place::Sized;
+use props::PropFound;
+use props::PropValue;
+use props::Property;
+use tables::Record;
+
+// The name's start and length, then 0 and a number, or 1 and a string's start and length.
+fn prop_words(p: Property) {
+    let name = p.name;
+    let value = p.value;
+    match value {
+        PropValue::Number(n) => say_with(b"# # 0 #", &[name.start, name.len, n as usize]),
+        PropValue::String(s) => say_with(b"# # 1 # #", &[name.start, name.len, s.start, s.len]),
+    }
+}
+
+fn found_prop(answer: PropFound) {
+    match answer {
+        PropFound::Property(p) => prop_words(p),
+        PropFound::Refused(r) => refusal(r),
+    }
+}
+
+fn found_glyph(answer: Found) {
+    match answer {
+        Found::Glyph(g) => number(b"", g.0 as usize),
+        Found::Refused(r) => refusal(r),
+    }
+}
+
+fn named(answer: Named) {
+    match answer {
+        Named::Name(s) => say_with(b"# #", &[s.start, s.len]),
+        Named::Refused(r) => refusal(r),
+    }
+}
+
+fn measured(answer: Measured) {
+    match answer {
+        Measured::Metrics(m) => measures(m),
+        Measured::Refused(r) => refusal(r),
+    }
+}
+
+fn sized(answer: Sized) {
+    match answer {
+        Sized::Dimensions(d) => say_with(b"# #", &[d.height, d.width]),
+        Sized::Refused(r) => refusal(r),
+    }
+}
+
+pub(crate) fn reading(font: &[u8], rec: Record, c: &[u8]) {
+    let kind = kind_at(c);
+    match kind {
+        PROP => found_prop(props::prop_at(font, rec, number_at(c))),
+        LOOKUP => found_glyph(lookup::get_glyph(font, rec, code_at(c))),
+        NAME => named(names::get_name(font, rec, glyph_at(c))),
+        METRICS => measured(metrics::get_metrics(font, rec, glyph_at(c))),
+        DIMENSIONS => sized(place::dimensions(font, rec)),
+        _ => record_words(rec),
+    }
+}

@@ -1,0 +1,81 @@
+// The calls on one font, a line each.
+use crate::answers::prepared;
+use crate::answers::stepped;
+use crate::calls::CALL;
+use crate::calls::CHANGE;
+use crate::calls::LOAD;
+use crate::calls::PREP;
+use crate::calls::STEP;
+use crate::calls::code_at;
+use crate::calls::kind_at;
+use crate::calls::size_at;
+use crate::calls::text_of;
+use crate::changes::changed;
+use crate::drawing::drawing;
+use crate::reading::reading;
+use console::number;
+use console::refusal;
+use console::say;
+use load::Loaded;
+use load::load_pcf;
+use names::Span;
+use names::part_of;
+use tables::Record;
+
+// In the order of the kinds' numbers, which are in `calls`: 13 characters each.
+fn name(kind: u8) {
+    let start = 13 * (kind as usize);
+    let names =
+        b"change       draw_bitmap  draw_glyph   draw_char    unpack_glyph prep_char    show_glyph   \
+        draw_string  step_at      load_pcf     prop_at      get_glyph    get_name     get_metrics  dimensions   ";
+    say(part_of(names, Span { start, len: 13 }));
+}
+
+// Kinds below 9 draw, place or step; the others read.
+fn answer(font: &[u8], rec: Record, c: &[u8], text: &[u8]) {
+    let kind = kind_at(c);
+    match kind {
+        PREP => prepared(place::prep_char(font, rec, code_at(c))),
+        STEP => stepped(utf8::step_at(text, size_at(c, 40))),
+        LOAD..=255 => reading(font, rec, c),
+        _ => drawing(font, rec, c, text),
+    }
+}
+
+fn one_call(font: &[u8], rec: Record, c: &[u8], text: &[u8]) {
+    name(kind_at(c));
+    answer(font, rec, c, text);
+    say(b"\n");
+}
+
+// A change holds for the next call that is none.
+fn all_calls(font: &[u8], rec: Record, lent: &[u8], calls: &[u8], count: u32) {
+    let mut now = rec;
+    let mut k: u32 = 0;
+    while k < count {
+        let start = CALL * k as usize;
+        let c = part_of(calls, Span { start, len: CALL });
+        if kind_at(c) == CHANGE {
+            now = changed(now, c);
+        } else {
+            one_call(font, now, c, text_of(lent, c));
+            now = rec;
+        }
+        k += 1;
+    }
+}
+
+// `lent` is the font's bytes and the texts after them; the calls stand at the start of `calls`.
+pub(crate) fn font_calls(font: &[u8], lent: &[u8], calls: &[u8], count: u32) {
+    number(b"font of ", font.len());
+    say(b" bytes\n");
+    let loaded = load_pcf(font);
+    match loaded {
+        Loaded::Font(rec) => all_calls(font, rec, lent, calls, count),
+        Loaded::Refused(r) => {
+            name(LOAD);
+            refusal(r);
+            say(b"\n");
+        }
+    }
+}

@@ -1,0 +1,189 @@
+#!/usr/bin/env python3
+"""Holds crates/replay/stdout, which the program must write, to what the model of document 01 says of each
+call in the files of crates/replay/data; and the files to what make.py makes.
+
+With --write the data, the arguments and the output are stored anew."""
+import collections
+import copy
+import os
+import sys
+
+sys.path.insert(0, os.path.dirname(os.path.dirname(os.path.abspath(__file__))))
+
+import model  # noqa: E402
+import stored  # noqa: E402
+from common import fail  # noqa: E402
+from replay import calls, make  # noqa: E402
+
+# every number that each call can refuse with; the recorded ones are left out, and do not stand in for the others
+REFUSED = {
+    "draw_bitmap": [6, 12, 13, 14, 15, 16],
+    "draw_glyph": [6, 13, 14, 15, 16],
+    "draw_char": [6, 9, 10, 11, 13, 14, 15, 16],
+    "unpack_glyph": [6, 13, 14, 15, 16],
+    "prep_char": [6, 9, 10, 11],
+    "show_glyph": [13, 14, 16],
+    "draw_string": [6, 10, 11, 13, 14, 15, 16, 19],
+    "step_at": [19],
+}
+
+
+# ---- what the model answers
+
+
+def changed(rec, changes):
+    made = copy.deepcopy(rec)
+    for path, value in changes.items():
+        *parts, last = path.split(".")
+        at = made
+        for part in parts:
+            at = at[part]
+        at[last] = value
+    return made
+
+
+def before(length):
+    return [100 + i % 7 for i in range(length)]
+
+
+def box_words(info):
+    return "glyph %d, width %d, height %d, pad top %d, pad left %d" % tuple(model.flat_info(info))
+
+
+def row_words(drawn, dropped):
+    return "drawn %d, dropped %d" % (drawn, dropped)
+
+
+def asked(b, rec, c):
+    """the answer in words, and the pixels to colour"""
+    call = c["call"]
+    place = [c.get(name) for name in ("len", "start", "stride", "scale")]
+    if call == "draw_bitmap":
+        rows, pixels = model.bitmap_check(b, rec, c["g"], c["width"], c["height"], *place)
+        return row_words(*rows), pixels
+    if call == "draw_glyph":
+        rows, pixels = model.glyph_check(b, rec, c["info"], *place)
+        return row_words(*rows), pixels
+    if call == "draw_char":
+        (info, *rows), pixels = model.char_check(b, rec, c["code"], *place)
+        return box_words(info) + ", " + row_words(*rows), pixels
+    if call == "unpack_glyph":
+        rows, pixels = model.unpack_check(b, rec, c["info"], *place[:3])
+        return "rows %d" % rows, pixels
+    if call == "draw_string":
+        extent, pixels = model.text_check(b, rec, c["text"], *place[:2], c["wrap"], *place[2:])
+        return "height %d, dropped %d" % extent, pixels
+    # show_glyph: as draw_glyph of a record that passes its test, but asks no limit
+    seen = model.glyph_picture(b, rec, c["info"], *place)
+    if isinstance(seen, int):
+        raise model.Refused(seen)
+    return row_words(*seen[:2]), seen[2]
+
+
+def runs(places):
+    """as 0-2,4"""
+    made = []
+    for i in places:
+        if made and made[-1][1] == i - 1:
+            made[-1][1] = i
+        else:
+            made.append([i, i])
+    return ",".join("%d" % a if a == z else "%d-%d" % (a, z) for a, z in made) or "none"
+
+
+def read_numbers(b, rec, c):
+    """the answer's numbers of a call that reads"""
+    call = c["call"]
+    if call == "load_pcf":
+        return model.flat_record(rec)
+    if call == "prop_at":
+        return model.prop_at(b, rec, c["code"])
+    if call == "get_glyph":
+        return [model.get_glyph(b, rec, c["code"])]
+    if call == "get_name":
+        return model.get_name(b, rec, c["g"])
+    if call == "get_metrics":
+        return model.flat_metrics(model.get_metrics(b, rec, c["g"]))
+    return model.dimensions(b, rec)
+
+
+def found(b, rec, c):
+    """the answer in words of a call that draws nothing"""
+    if c["call"] == "prep_char":
+        return box_words(model.prep_char(b, rec, c["code"]))
+    if c["call"] == "step_at":
+        step = model.utf8_step(c["text"], c["start"])
+        return "end" if step is None else "code %d, next %d" % step
+    return " ".join(map(str, read_numbers(b, rec, c)))
+
+
+def line(b, rec, c, colour):
+    """what is written of a call, and the number that it is refused with or 0"""
+    if "len" not in c:
+        try:
+            return "%-12s %s" % (c["call"], found(b, rec, c)), 0
+        except model.Refused as r:
+            return "%-12s %s" % (c["call"], r), r.number
+    number, pixels = 0, []
+    try:
+        words, pixels = asked(b, rec, c)
+    except model.Refused as r:
+        words, number = str(r), r.number
+    if c["len"] > calls.MOST:
+        return "%-12s dry run %s" % (c["call"], words), number
+    old = before(c["len"])
+    places = [i for i, (was, now) in enumerate(zip(old, model.coloured(old, pixels, colour))) if was != now]
+    return "%-12s %s; dry run %s; pixels %s" % (c["call"], words, words, runs(places)), number
+
+
+def lines(b, of_font, seen):
+    """what is written of a font; counts what its calls answer"""
+    yield "font of %d bytes" % len(b)
+    try:
+        loaded = model.load(b)
+    except model.Refused as r:
+        yield "%-12s %s" % ("load_pcf", r)
+        return
+    for k, c in enumerate(of_font):
+        text, number = line(b, changed(loaded, c.get("rec", {})), c, calls.colour(c, k))
+        seen[c["call"], number] += 1
+        yield text
+
+
+def output(inputs, seen):
+    made = []
+    for name, sections in inputs.items():
+        made.append("== " + name)
+        for b, of_font in sections:
+            made += lines(b, of_font, seen)
+    return "".join(text + "\n" for text in made).encode()
+
+
+def check_refusals(seen):
+    for call, numbers in REFUSED.items():
+        shown = sorted({number for (of, number) in seen if of == call})
+        if shown != [0] + numbers:
+            fail("%s answers %s" % (call, shown))
+
+
+def main():
+    drawn, recorded = make.drawn(), make.recorded()
+    seen, seen_recorded = collections.Counter(), collections.Counter()
+    want = {("replay", "args"): "".join(name + "\n" for name in [*drawn, *recorded]).encode(),
+            ("replay", "stdout"): output(drawn, seen) + output(recorded, seen_recorded)}
+    check_refusals(seen)
+    write, files = sys.argv[1:] == ["--write"], make.files()
+    if write:
+        stored.store_data("replay", files)
+    stored.hold_data("replay", files)
+    stored.hold(want, write)
+    for call, numbers in REFUSED.items():
+        print("%s: %d answers, refused %s" % (
+            call, seen[call, 0], ", ".join("%d: %d" % (number, seen[call, number]) for number in numbers)))
+    of_recorded = sum(len(of_font) for sections in recorded.values() for _, of_font in sections)
+    print("replay: %d calls in %d files, and %d recorded ones in %d, are as made, and the output agrees with the model" % (
+        sum(seen.values()), len(drawn), of_recorded, len(recorded)))
+
+
+if __name__ == "__main__":
+    main()
