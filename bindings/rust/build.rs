@@ -1,5 +1,5 @@
-//! Links libthalluskin.a, from the folder that THALLUSKIN_LIB names or from the repository's target/staticlib. The latter
-//! is for x86-64; one for another 64-bit, little-endian Linux has to be named.
+//! Links libthalluskin.a, from the folder that THALLUSKIN_LIB names or from the repository's target/staticlib. The one
+//! there is for x86-64; one for another 64-bit, little-endian Linux has to be named.
 use std::env;
 use std::path::PathBuf;
 use std::process::exit;
