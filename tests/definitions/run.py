@@ -25,6 +25,7 @@ from common import ROOT  # noqa: E402
 from definitions import terms  # noqa: E402
 from definitions.answers import answer, text_of  # noqa: E402
 
+TOPS = ("text", "frames")  # the cases call definitions of these libraries and of those that they stand on
 CRATES = 4  # of cases; the prover takes them side by side
 
 
@@ -38,10 +39,10 @@ def listed():
 
 
 def libraries():
-    """the libraries that have definitions"""
-    at = os.path.join(ROOT, "crates")
-    return [c for c in listed() if c != "promises" and os.path.isdir(f"{at}/{c}/specs")
-            and os.path.exists(f"{at}/{c}/src/lib.rt")]
+    """the libraries with the definitions that the cases call"""
+    on = listed()
+    called = {name for top in TOPS for name in (top, *on[top].split())}
+    return [c for c in on if c in called and os.path.isdir(os.path.join(ROOT, "crates", c, "specs"))]
 
 
 def openings():
