@@ -1,6 +1,6 @@
 #!/usr/bin/env python3
 """Holds crates/pages/stdout, which the program must write, to what the model of document 01 says of each
-page: the answer and the buffer after it.
+page: the answer and the buffer after it. The pages are asked for by crates/pages/stdin.
 
 With --write the input and the output are stored anew."""
 import os
@@ -13,6 +13,7 @@ import stored  # noqa: E402
 from pcf import font_f  # noqa: E402
 
 COLOUR = 1
+NO_WRAP = 2 ** 32 - 1
 
 # title, text, pixels, stride, wrap, scale, and the value that each pixel has before
 PAGES = [
@@ -35,6 +36,18 @@ PAGES = [
     ("not UTF-8", b"01\xe2\x82", 24, 6, None, 1, 7),
     ("scale over 64", b"0", 9, 3, None, 65, 7),
 ]
+
+
+def request(font):
+    """the program's input: the font's length, the font, and each page as seven numbers, its title and its text"""
+    def number(n):
+        return n.to_bytes(4, "little")
+    asked = [number(len(font)), font]
+    for title, text, length, stride, wrap, scale, old in PAGES:
+        end = NO_WRAP if wrap is None else wrap
+        asked += [number(n) for n in (len(title), len(text), length, stride, end, scale, old)]
+        asked += [title.encode(), text]
+    return b"".join(asked)
 
 
 def quoted(text):
@@ -65,7 +78,7 @@ def main():
     rec = model.vet(b)
     pages = [page(b, rec, *p) for p in PAGES]
     want = {
-        ("pages", "stdin"): font_f.LINES.encode(),
+        ("pages", "stdin"): request(b),
         ("pages", "stdout"): b"".join(written for written, _ in pages),
     }
     stored.hold(want, sys.argv[1:] == ["--write"])

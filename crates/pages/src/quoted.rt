@@ -1,16 +1,7 @@
-// Words and numbers on standard output.
+// A text as it would stand in the source.
+use console::say;
 
-pub(crate) fn say(text: &[u8]) {
-    io::write_all(1, text);
-}
-
-// A label, and the number that it names.
-pub(crate) fn number(label: &[u8], n: usize) {
-    say(label);
-    io::print_decimal(1, n as u64);
-}
-
-// A byte of a text as it would stand in the source: \n, \r, itself, or \xc3.
+// A byte of it: \n, \r, itself, or \xc3.
 fn character(c: u8) {
     if c == 10 {
         say(b"\\n");
