@@ -1,6 +1,16 @@
 // The dump of each file that an argument names: what `dump` writes for it, after its name.
+ghost use mathlib.Core.Path.{_≡_};
+ghost use lib.ListN.{length};
+
+// Room for the longest file. Its length comes from a law: to count so far takes the prover seconds.
+fn room() -> [u8; 147460]
+    ensures { λ r. ⌜ 147460 ≡ length r ⌝ }
+{
+    [0; 147460]
+}
+
 fn named(i: usize) {
-    let mut text = [0u8; 163840];
+    let mut text = room();
     let n = console::file_of_argument(i, &mut text);
     dumper::print_dump(&text[..n]);
 }

@@ -14,8 +14,6 @@ use crate::wrong::WRONGS;
 use crate::wrong::wrong;
 use crate::wrong::wrong_words;
 use console::refusal_line;
-use console::say;
-use console::say_with;
 use load::Loaded;
 use load::load_pcf;
 use tables::Record;
@@ -118,10 +116,7 @@ fn absent(bytes: &[u8], rec: Record, seen: Seen) {
 // A record whose names' strings begin beyond the bytes: each call refuses it.
 fn each_refuses(bytes: &[u8], rec: Record, code: u16) {
     let beyond = bytes.len() + 1;
-    say_with(
-        b"the same record, the names' strings at #, beyond the bytes:\n",
-        &[beyond],
-    );
+    wrong_words(BEYOND, beyond);
     let bad = wrong(rec, BEYOND, beyond);
     answers(
         bytes,
@@ -145,9 +140,7 @@ fn each_refuses(bytes: &[u8], rec: Record, code: u16) {
 fn each_wrong(bytes: &[u8], rec: Record) {
     let mut which: u8 = 0;
     while which < WRONGS {
-        say(b"with ");
-        wrong_words(which);
-        say(b", ");
+        wrong_words(which, bytes.len());
         ask(bytes, wrong(rec, which, bytes.len()), DIMENSIONS, 0);
         which += 1;
     }

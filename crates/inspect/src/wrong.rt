@@ -10,17 +10,19 @@ use tables::Record;
 // How many wrong things there are.
 pub(crate) const WRONGS: u8 = 11;
 
-// One more: the names' strings beyond the bytes.
+// One more: the names' strings begin beyond the bytes.
 pub(crate) const BEYOND: u8 = 11;
 
 // In the order of the numbers.
-pub(crate) fn wrong_words(which: u8) {
+pub(crate) fn wrong_words(which: u8, end: usize) {
     say_item(
-        b"second byte 1 to 0|first byte 1 to 0|code entries of 1 byte|code entries at the end|row pad 3|\
-bitmap offsets at the end|bitmap data at the end|metrics at the end|name offsets at the end|\
-4294967295 properties|property strings of 18446744073709551615 bytes",
+        b"with second byte 1 to 0, |with first byte 1 to 0, |with code entries of 1 byte, |\
+with code entries at the end, |with row pad 3, |with bitmap offsets at the end, |with bitmap data at the end, |\
+with metrics at the end, |with name offsets at the end, |with 4294967295 properties, |\
+with property strings of 18446744073709551615 bytes, |\
+the same record, the names' strings at #, beyond the bytes:\n",
         which as usize,
-        &[],
+        &[end],
     );
 }
 

@@ -1,5 +1,5 @@
 // Lines of characters, collected in a lent buffer of any length from 4 on and written when it is full.
-use crate::words::say;
+use console::say;
 ghost use mathlib.Core.Path.{_≡_};
 ghost use Prim.Native.Nat.{_+_, _≤_, _<_};
 ghost use lib.ListN.{length, getD, set};

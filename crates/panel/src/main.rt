@@ -4,7 +4,6 @@ mod asked;
 mod blocks;
 mod lines;
 mod picture;
-mod words;
 
 use crate::asked::Asked;
 use crate::asked::HEAD;
@@ -13,9 +12,10 @@ use crate::asked::Request;
 use crate::asked::asked_of;
 use crate::blocks::print_blocks;
 use crate::picture::print_picture;
-use crate::words::number;
-use crate::words::refusal;
-use crate::words::say;
+use console::say;
+use console::say_item;
+use console::say_with;
+use reads::Refusal;
 use tables::Record;
 use text::TextDrawn;
 use text::TextRows;
@@ -35,6 +35,40 @@ const PIXELS: usize = 65536;
 
 const COLOUR: u32 = 1;
 
+// What came of a request; a refusal is the font's or the text's.
+enum Shown {
+    Done(TextRows),
+    Font(Refusal),
+    Text(Refusal),
+}
+
+// The panel's pixels, all of them 0, are coloured.
+fn text_shown(r: Request, rec: Record, text: &[u8], font: &[u8], panel: &mut [u32]) -> Shown {
+    let wrap = r.wrap;
+    let drawn = draw_string(font, rec, text, panel, 0, wrap, r.width, r.scale, COLOUR);
+    match drawn {
+        TextDrawn::Done(rows) => Shown::Done(rows),
+        TextDrawn::Refused(no) => Shown::Text(no),
+    }
+}
+
+fn font_shown(r: Request, text: &[u8], font: &[u8], panel: &mut [u32]) -> Shown {
+    match vet::vet(font) {
+        Vetted::Passed(rec) => text_shown(r, rec, text, font, panel),
+        Vetted::Refused(no) => Shown::Font(no),
+    }
+}
+
+// The number in two digits, the place, and what is refused: `refused 16 place 11 text`.
+fn refusal(r: Refusal, what: &[u8]) {
+    say_item(
+        b"refused # place # |refused 0# place # ",
+        (r.number < 10) as usize,
+        &[r.number as usize, r.place],
+    );
+    say(what);
+}
+
 // The panel; after half blocks, what the text lost and how high it is.
 fn print_panel(r: Request, pixels: &[u32], rows: TextRows, out: &mut [u8])
     requires { ⌜ (length (now pixels) ≤ 65536) × Sized r × (4 ≤ length (now out)) ⌝ }
@@ -44,39 +78,17 @@ fn print_panel(r: Request, pixels: &[u32], rows: TextRows, out: &mut [u8])
         return;
     }
     print_blocks(pixels, r.width, out);
-    number(b"dropped ", rows.dropped);
-    number(b" height ", rows.height);
-    say(b"\n");
-}
-
-// The panel's pixels, all of them 0, are coloured and printed.
-fn with_panel(r: Request, rec: Record, text: &[u8], font: &[u8], panel: &mut [u32], out: &mut [u8])
-    requires { ⌜ (length (now panel) ≤ 65536) × Sized r × (4 ≤ length (now out)) ⌝ }
-{
-    let wrap = r.wrap;
-    let drawn = draw_string(
-        font,
-        rec,
-        text,
-        &mut *panel,
-        0,
-        wrap,
-        r.width,
-        r.scale,
-        COLOUR,
-    );
-    match drawn {
-        TextDrawn::Done(rows) => print_panel(r, panel, rows, out),
-        TextDrawn::Refused(no) => refusal(no, b"text"),
-    }
+    say_with(b"dropped # height #\n", &[rows.dropped, rows.height]);
 }
 
 fn with_font(r: Request, text: &[u8], font: &[u8], panel: &mut [u32], out: &mut [u8])
     requires { ⌜ (length (now panel) ≤ 65536) × Sized r × (4 ≤ length (now out)) ⌝ }
 {
-    match vet::vet(font) {
-        Vetted::Passed(rec) => with_panel(r, rec, text, font, panel, out),
-        Vetted::Refused(no) => refusal(no, b"font"),
+    let shown = font_shown(r, text, font, &mut *panel);
+    match shown {
+        Shown::Done(rows) => print_panel(r, panel, rows, out),
+        Shown::Font(no) => refusal(no, b"font\n"),
+        Shown::Text(no) => refusal(no, b"text\n"),
     }
 }
 

@@ -3,8 +3,7 @@ use crate::lines::end_line;
 use crate::lines::pixel_at;
 use crate::lines::put_one;
 use crate::lines::with_room;
-use crate::words::number;
-use crate::words::say;
+use console::say_with;
 ghost use mathlib.Core.Path.{_≡_};
 ghost use Prim.Native.Nat.{_≤_};
 ghost use lib.ListN.{length};
@@ -44,9 +43,7 @@ fn print_row(pixels: &[u32], row: usize, width: usize, out: &mut [u8])
 pub(crate) fn print_picture(pixels: &[u32], width: usize, height: usize, out: &mut [u8])
     requires { ⌜ (length (now pixels) ≤ 65536) × (1 ≤ width) × (width ≤ 65535) × (4 ≤ length (now out)) ⌝ }
 {
-    number(b"P1\n", width);
-    number(b" ", height);
-    say(b"\n");
+    say_with(b"P1\n# #\n", &[width, height]);
     let mut row = 0;
     while row < pixels.len() {
         print_row(pixels, row, width, out);

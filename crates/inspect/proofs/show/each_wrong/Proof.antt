@@ -4,10 +4,10 @@ use Rattle.inspect.proofs.show.each_wrong.Statement.{statement}
 use Rattle.inspect.proofs.show.each_wrong.Tie as tie
 
 abbrev Inv-loop : tie.InvT-loop
-Inv-loop bytes rec which₀ t4 t5 which = Unit {0}
+Inv-loop bytes rec which₀ which = Unit {0}
 
 abbrev μ-loop : tie.MeasureT-loop
-μ-loop bytes rec which₀ t4 t5 which = 11 - which
+μ-loop bytes rec which₀ which = 11 - which
 
 pub each-wrong-spec : {M : Type 1} → statement M
 each-wrong-spec =
@@ -16,11 +16,7 @@ each-wrong-spec =
     Inv-loop
     μ-loop
     (λ c. search needs)  -- loop-holds
-    (λ c. search needs)  -- slice-aggregate-say
-    (λ c κs. search needs)  -- say-requires
     (λ c κs. search needs)  -- wrong-words-requires
-    (λ c. search needs)  -- slice-aggregate-say-2
-    (λ c κs. search needs)  -- say-requires-2
     (λ c κs. search needs)  -- wrong-requires
     (λ c κs. search needs)  -- ask-requires
     (λ c. search needs)  -- add-which

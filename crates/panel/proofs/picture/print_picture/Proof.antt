@@ -11,61 +11,19 @@ Inv-loop pixels width height out₀ row₀ out row = length out ≡ length out�
 abbrev μ-loop : tie.MeasureT-loop
 μ-loop pixels width height out₀ row₀ out row = length pixels - row
 
-slice-aggregate-number : tie.Need-slice-aggregate-number Inv-loop μ-loop
-slice-aggregate-number c = search needs
-
-number-requires : tie.Need-number-requires Inv-loop μ-loop
-number-requires c κs = search needs
-
-slice-aggregate-number-2 : tie.Need-slice-aggregate-number-2 Inv-loop μ-loop
-slice-aggregate-number-2 c = search needs
-
-number-requires-2 : tie.Need-number-requires-2 Inv-loop μ-loop
-number-requires-2 c κs = search needs
-
-slice-aggregate-say : tie.Need-slice-aggregate-say Inv-loop μ-loop
-slice-aggregate-say c = search needs
-
-say-requires : tie.Need-say-requires Inv-loop μ-loop
-say-requires c κs = search needs
-
-loop-holds : tie.Need-loop-holds Inv-loop μ-loop
-loop-holds c = search needs
-
-print-row-requires : tie.Need-print-row-requires Inv-loop μ-loop
-print-row-requires c κs = search needs
-
-add-row : tie.Need-add-row Inv-loop μ-loop
-add-row c = search needs
-
-loop-less : tie.Need-loop-less Inv-loop μ-loop
-loop-less c = search needs
-
-loop-again : tie.Need-loop-again Inv-loop μ-loop
-loop-again c = search needs
-
-same-length : tie.Need-same-length Inv-loop μ-loop
-same-length c = search needs
-
-returns : tie.Need-returns Inv-loop μ-loop
-returns c = search needs
-
 pub print-picture-spec : {M : Type 1} → statement M
 print-picture-spec =
     tie.close
     (tie.spec
     Inv-loop
     μ-loop
-    slice-aggregate-number
-    number-requires
-    slice-aggregate-number-2
-    number-requires-2
-    slice-aggregate-say
-    say-requires
-    loop-holds
-    print-row-requires
-    add-row
-    loop-less
-    loop-again
-    same-length
-    returns)
+    (λ c. search needs)  -- slice-aggregate-say-with
+    (λ c. search needs)  -- slice-aggregate-say-with-2
+    (λ c κs. search needs)  -- say-with-requires
+    (λ c. search needs)  -- loop-holds
+    (λ c κs. search needs)  -- print-row-requires
+    (λ c. search needs)  -- add-row
+    (λ c. search needs)  -- loop-less
+    (λ c. search needs)  -- loop-again
+    (λ c. search needs)  -- same-length
+    (λ c. search needs))  -- returns
