@@ -56,7 +56,7 @@ def main():
         elif theorems[crate, name] != ("&mut" in clauses):
             bad.append(f"{crate}::{name} has a theorem that leaves out the lent buffer, or speaks of none")
     bad += [f"{crate}::{name} has a theorem, but is no public function" for crate, name in sorted(set(theorems) - found)]
-    bad += [f"{crate}::{name} reads from outside, but is no public function" for crate, name in sorted(READING - found)]
+    bad += [f"{crate}::{name} reads, but is no public function" for crate, name in sorted(READING - found)]
     for line in bad:
         print(line)
     print(f"contracts: {len(found)} public functions, {len(bad)} faults")

@@ -17,7 +17,8 @@ pub filling-none : (old : List ℕ) → Filling old old 0
 filling-none old = record { same-length = refl; each = λ i h. absurd (omega arith) }
 
 module _ (old new : List ℕ) (end : ℕ) (filling : Filling old new end) where
-  stored : (v : ℕ) → end < length new → v ≡ before end → (i : ℕ) → (i ≡ end) ⊎ (i < end) → getD (set new end v) i 0 ≡ before i
+  stored : (v : ℕ) → end < length new → v ≡ before end → (i : ℕ) → (i ≡ end) ⊎ (i < end)
+      → getD (set new end v) i 0 ≡ before i
   stored v h e i (inl is) = rw is (getD-set-same new end v 0 h ∙ e)
   stored v h e i (inr below) = getD-set-other new end i v 0 (λ is. omega arith) ∙ filling .each i below
 

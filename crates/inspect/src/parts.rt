@@ -37,7 +37,8 @@ pub(crate) fn measures(m: MetricsUnpacked) {
 
 fn accel_flags(a: AcceleratorUnpacked) {
     say_with(
-        b"format #, no overlap #, constant metrics #, terminal font #, constant width #, ink inside #, ink metrics #, draw direction #, padding #",
+        b"format #, no overlap #, constant metrics #, terminal font #, constant width #, ink inside #, \
+ink metrics #, draw direction #, padding #",
         &[
             a.format as usize,
             a.noOverlap as usize,

@@ -7,18 +7,18 @@ use lib.Seq.{ext-getD}
 use denote.Ref.{now}
 use Rattle.console.specs.Before.{Filled}
 use Rattle.promises.specs.Unique.{FixesLent}
-use Rattle.console.proofs.fill_pixels.Kinds as fill-pixels-kinds
-use Rattle.console.proofs.fill_pixels.Reads as fill-pixels-reads
-use Rattle.console.proofs.fill_bytes.Kinds as fill-bytes-kinds
-use Rattle.console.proofs.fill_bytes.Reads as fill-bytes-reads
+use Rattle.console.proofs.fill_pixels.Kinds as pixels-kinds
+use Rattle.console.proofs.fill_pixels.Reads as pixels-reads
+use Rattle.console.proofs.fill_bytes.Kinds as bytes-kinds
+use Rattle.console.proofs.fill_bytes.Reads as bytes-reads
 
 same-filled : {old l₁ l₂ : List ℕ} → Filled old l₁ → Filled old l₂ → l₁ ≡ l₂
 same-filled {old} {l₁} {l₂} p q =
     let same = p .same-length ∙ sym (q .same-length) in
     ext-getD 0 l₁ l₂ same (λ i below. p .each i below ∙ sym (q .each i (omega arith)))
 
-pub fill-pixels-unique : FixesLent 1 fill-pixels-kinds.ps fill-pixels-kinds.r fill-pixels-reads.Post (λ κs x. now (x .0))
-fill-pixels-unique κs a r₁ r₂ x₁ x₂ p q = (refl, same-filled p q)
+pub pixels-unique : FixesLent 1 pixels-kinds.ps pixels-kinds.r pixels-reads.Post (λ κs x. now (x .0))
+pixels-unique κs a r₁ r₂ x₁ x₂ p q = (refl, same-filled p q)
 
-pub fill-bytes-unique : FixesLent 1 fill-bytes-kinds.ps fill-bytes-kinds.r fill-bytes-reads.Post (λ κs x. now (x .0))
-fill-bytes-unique κs a r₁ r₂ x₁ x₂ p q = (refl, same-filled p q)
+pub bytes-unique : FixesLent 1 bytes-kinds.ps bytes-kinds.r bytes-reads.Post (λ κs x. now (x .0))
+bytes-unique κs a r₁ r₂ x₁ x₂ p q = (refl, same-filled p q)
