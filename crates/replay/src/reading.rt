@@ -16,30 +16,31 @@ use console::say_with;
 use lookup::Found;
 use metrics::Measured;
 use names::Named;
+use names::Span;
 use place::Sized;
 use props::PropFound;
 use props::PropValue;
-use props::Property;
 use tables::Record;
 
 // The name's start and length, then 0 and a number, or 1 and a string's start and length.
-fn prop_words(p: Property) {
-    let name = p.name;
-    let value = p.value;
+fn prop_words(name: Span, value: PropValue) {
     match value {
         PropValue::Number(n) => say_with(b"# # 0 #", &[name.start, name.len, n as usize]),
         PropValue::String(s) => say_with(b"# # 1 # #", &[name.start, name.len, s.start, s.len]),
     }
 }
 
-fn found_prop(answer: PropFound) {
+fn prop(answer: PropFound) {
     match answer {
-        PropFound::Property(p) => prop_words(p),
+        PropFound::Property(p) => {
+            let value = p.value;
+            prop_words(p.name, value);
+        }
         PropFound::Refused(r) => refusal(r),
     }
 }
 
-fn found_glyph(answer: Found) {
+fn glyph(answer: Found) {
     match answer {
         Found::Glyph(g) => number(b"", g.0 as usize),
         Found::Refused(r) => refusal(r),
@@ -70,8 +71,8 @@ fn sized(answer: Sized) {
 pub(crate) fn reading(font: &[u8], rec: Record, c: &[u8]) {
     let kind = kind_at(c);
     match kind {
-        PROP => found_prop(props::prop_at(font, rec, number_at(c))),
-        LOOKUP => found_glyph(lookup::get_glyph(font, rec, code_at(c))),
+        PROP => prop(props::prop_at(font, rec, number_at(c))),
+        LOOKUP => glyph(lookup::get_glyph(font, rec, code_at(c))),
         NAME => named(names::get_name(font, rec, glyph_at(c))),
         METRICS => measured(metrics::get_metrics(font, rec, glyph_at(c))),
         DIMENSIONS => sized(place::dimensions(font, rec)),

@@ -28,9 +28,9 @@ pub(crate) fn measures(m: MetricsUnpacked) {
     number(b"", m.attributes as usize);
 }
 
-fn flags(a: AcceleratorUnpacked) {
+fn accelerators(a: AcceleratorUnpacked) {
     say_with(
-        b" # # # # # # # # # ",
+        b" # # # # # # # # #",
         &[
             a.format as usize,
             a.noOverlap as usize,
@@ -43,29 +43,22 @@ fn flags(a: AcceleratorUnpacked) {
             a.padding as usize,
         ],
     );
-}
-
-fn accelerators(a: AcceleratorUnpacked) {
-    flags(a);
-    say_signed(b"# # # ", &[a.fontAscent, a.fontDescent, a.maxOverlap]);
+    say_signed(b" # # # ", &[a.fontAscent, a.fontDescent, a.maxOverlap]);
     measures(a.minbounds);
     say(b" ");
     measures(a.maxbounds);
 }
 
-fn metrics_numbers(m: MetricsData) {
+fn metrics_and_bitmaps(m: MetricsData, b: BitmapData) {
     say_with(
         b" # # # # ",
         &[flag(m.big), flag(m.compressed), m.count as usize, m.records],
     );
-}
-
-fn bitmap_numbers(b: BitmapData) {
     table(b.big, b.count, b.offsets, b.bits, b.size);
     say_with(b" # # # ", &[b.pad as usize, b.unit as usize, flag(b.top)]);
 }
 
-fn code_numbers(c: EncodingData) {
+fn codes(c: EncodingData) {
     say_with(
         b"# # # # # # # # ",
         &[
@@ -86,8 +79,7 @@ pub(crate) fn record_words(rec: Record) {
     let n = rec.names;
     table(p.big, p.count, p.records, p.strings, p.size);
     accelerators(rec.accel);
-    metrics_numbers(rec.metrics);
-    bitmap_numbers(rec.bitmaps);
-    code_numbers(rec.codes);
+    metrics_and_bitmaps(rec.metrics, rec.bitmaps);
+    codes(rec.codes);
     table(n.big, n.count, n.offsets, n.strings, n.size);
 }

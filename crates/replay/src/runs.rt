@@ -14,12 +14,13 @@ use crate::changes::changed;
 use crate::drawing::drawing;
 use crate::reading::reading;
 use console::number;
-use console::refusal;
+use console::refusal_line;
 use console::say;
 use load::Loaded;
 use load::load_pcf;
 use names::Span;
 use names::part_of;
+use reads::Refusal;
 use tables::Record;
 
 // In the order of the kinds' numbers, which are in `calls`: 13 characters each.
@@ -31,20 +32,16 @@ fn name(kind: u8) {
     say(part_of(names, Span { start, len: 13 }));
 }
 
-// Kinds below 9 draw, place or step; the others read.
-fn answer(font: &[u8], rec: Record, c: &[u8], text: &[u8]) {
+// The kinds that read come last.
+fn one_call(font: &[u8], rec: Record, c: &[u8], text: &[u8]) {
     let kind = kind_at(c);
+    name(kind);
     match kind {
         PREP => prepared(place::prep_char(font, rec, code_at(c))),
         STEP => stepped(utf8::step_at(text, size_at(c, 40))),
         LOAD..=255 => reading(font, rec, c),
         _ => drawing(font, rec, c, text),
     }
-}
-
-fn one_call(font: &[u8], rec: Record, c: &[u8], text: &[u8]) {
-    name(kind_at(c));
-    answer(font, rec, c, text);
     say(b"\n");
 }
 
@@ -65,17 +62,22 @@ fn all_calls(font: &[u8], rec: Record, lent: &[u8], calls: &[u8], count: u32) {
     }
 }
 
+fn font_line(size: usize) {
+    number(b"font of ", size);
+    say(b" bytes\n");
+}
+
+fn not_loaded(r: Refusal) {
+    name(LOAD);
+    refusal_line(r);
+}
+
 // `lent` is the font's bytes and the texts after them; the calls stand at the start of `calls`.
 pub(crate) fn font_calls(font: &[u8], lent: &[u8], calls: &[u8], count: u32) {
-    number(b"font of ", font.len());
-    say(b" bytes\n");
+    font_line(font.len());
     let loaded = load_pcf(font);
     match loaded {
         Loaded::Font(rec) => all_calls(font, rec, lent, calls, count),
-        Loaded::Refused(r) => {
-            name(LOAD);
-            refusal(r);
-            say(b"\n");
-        }
+        Loaded::Refused(r) => not_loaded(r),
     }
 }
