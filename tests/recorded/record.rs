@@ -9,8 +9,8 @@ const CALL: usize = 64;
 
 /// the kinds by their numbers; 0, 6 and 8, which are not the original's, are not asked
 const KINDS: [&str; 15] = [
-    "", "draw_bitmap", "draw_glyph", "draw_char", "unpack_glyph", "prep_char", "", "draw_string", "", "load_pcf", "prop_at",
-    "get_glyph", "get_name", "get_metrics", "dimensions",
+    "", "draw_bitmap", "draw_glyph", "draw_char", "unpack_glyph", "prep_char", "", "draw_string", "", "load_pcf",
+    "prop_at", "get_glyph", "get_name", "get_metrics", "dimensions",
 ];
 
 // ---- numbers of a call

@@ -181,8 +181,8 @@ def main():
         print("%s: %d answers, refused %s" % (
             call, seen[call, 0], ", ".join("%d: %d" % (number, seen[call, number]) for number in numbers)))
     of_recorded = sum(len(of_font) for sections in recorded.values() for _, of_font in sections)
-    print("replay: %d calls in %d files, and %d recorded ones in %d, are as made, and the output agrees with the model" % (
-        sum(seen.values()), len(drawn), of_recorded, len(recorded)))
+    print("replay: %d calls in %d files, and %d recorded ones in %d, are as made, and the output agrees with the model"
+          % (sum(seen.values()), len(drawn), of_recorded, len(recorded)))
 
 
 if __name__ == "__main__":
