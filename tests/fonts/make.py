@@ -1,15 +1,8 @@
-#!/usr/bin/env python3
-"""Writes the font files of crates/inspect/data, each from a description of its tables."""
-import os
-import sys
-
-sys.path.insert(0, os.path.dirname(os.path.dirname(os.path.abspath(__file__))))
-
-import stored  # noqa: E402
-from pcf.font_f import DIGITS, THREE, two_digits  # noqa: E402
-from pcf.numbers import BIG, NO_GLYPH, TOP  # noqa: E402
-from pcf.rewriting import askew, with_bytes, with_offset, with_size  # noqa: E402
-from pcf.tables import (accelerators, bitmaps, codes, font, names, narrow_metrics, other, properties,  # noqa: E402
+"""Fonts that the tests are asked about, each from a description of its tables."""
+from pcf.font_f import DIGITS, THREE, two_digits
+from pcf.numbers import BIG, NO_GLYPH, TOP
+from pcf.rewriting import askew, with_bytes, with_offset, with_size
+from pcf.tables import (accelerators, bitmaps, codes, font, names, narrow_metrics, other, properties,
                         wide_metrics)
 
 
@@ -94,6 +87,3 @@ def files():
         made["refusal_%d.pcf" % number] = damaged
     return made
 
-
-if __name__ == "__main__":
-    stored.store_data("inspect", files())

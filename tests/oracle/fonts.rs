@@ -7,7 +7,7 @@ pub const COMPRESSED: u32 = 256;
 pub const NO_GLYPH: u16 = 65_535;
 
 /// font F of document 01
-pub const F: &[u8] = include_bytes!("../../crates/inspect/data/f.pcf");
+pub const F: &[u8] = include_bytes!("../../examples/f.pcf");
 
 pub fn bytes_of_hex(digits: &str) -> Vec<u8> {
     let digits: Vec<u32> = digits.chars().map(|c| c.to_digit(16).expect("a hexadecimal digit")).collect();

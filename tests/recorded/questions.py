@@ -9,10 +9,7 @@ import random
 from pcf.numbers import BIG, TOP
 from recorded import twins
 from replay import calls
-
-
-def asks(call, **arguments):
-    return dict(call=call, **arguments)
+from replay.calls import asks
 
 
 # ---- reading

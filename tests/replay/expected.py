@@ -16,7 +16,7 @@ from common import fail  # noqa: E402
 from replay import calls, make  # noqa: E402
 
 # every number that each call can refuse with; the recorded ones are left out, and do not stand in for the others
-REFUSED = {
+DRAWING = {
     "draw_bitmap": [6, 12, 13, 14, 15, 16],
     "draw_glyph": [6, 13, 14, 15, 16],
     "draw_char": [6, 9, 10, 11, 13, 14, 15, 16],
@@ -25,6 +25,16 @@ REFUSED = {
     "show_glyph": [13, 14, 16],
     "draw_string": [6, 10, 11, 13, 14, 15, 16, 19],
     "step_at": [19],
+}
+READING = {
+    "load_pcf": [1, 2, 3, 4, 5, 6, 7, 8],
+    "prop_at": [6, 17, 18],
+    "get_glyph": [6, 9],
+    "get_name": [6, 17, 18],
+    "get_metrics": [6, 10],
+    "dimensions": [6, 11],
+    "accelerators": [6],
+    "name_bytes": [],
 }
 
 
@@ -104,7 +114,18 @@ def read_numbers(b, rec, c):
         return model.get_name(b, rec, c["g"])
     if call == "get_metrics":
         return model.flat_metrics(model.get_metrics(b, rec, c["g"]))
+    if call == "accelerators":
+        return model.flat_accel(model.get_accelerators(b, rec))
     return model.dimensions(b, rec)
+
+
+def name_bytes(b, rec, g):
+    """none where the name is refused"""
+    try:
+        start, length = model.get_name(b, rec, g)
+    except model.Refused:
+        return b""
+    return b[start:start + length]
 
 
 def found(b, rec, c):
@@ -114,6 +135,8 @@ def found(b, rec, c):
     if c["call"] == "step_at":
         step = model.utf8_step(c["text"], c["start"])
         return "end" if step is None else "code %d, next %d" % step
+    if c["call"] == "name_bytes":
+        return '"%s"' % name_bytes(b, rec, c["g"]).decode("ascii")
     return " ".join(map(str, read_numbers(b, rec, c)))
 
 
@@ -142,6 +165,7 @@ def lines(b, of_font, seen):
     try:
         loaded = model.load(b)
     except model.Refused as r:
+        seen["load_pcf", r.number] += 1
         yield "%-12s %s" % ("load_pcf", r)
         return
     for k, c in enumerate(of_font):
@@ -159,30 +183,35 @@ def output(inputs, seen):
     return "".join(text + "\n" for text in made).encode()
 
 
-def check_refusals(seen):
-    for call, numbers in REFUSED.items():
+def check_refusals(seen, refused):
+    for call, numbers in refused.items():
         shown = sorted({number for (of, number) in seen if of == call})
         if shown != [0] + numbers:
             fail("%s answers %s" % (call, shown))
+        print("%s: %d answers, refused %s" % (
+            call, seen[call, 0], ", ".join("%d: %d" % (number, seen[call, number]) for number in numbers) or "never"))
+
+
+def counted(seen, kinds):
+    return sum(count for (call, _), count in seen.items() if call in kinds)
 
 
 def main():
-    drawn, recorded = make.drawn(), make.recorded()
-    seen, seen_recorded = collections.Counter(), collections.Counter()
-    want = {("replay", "args"): "".join(name + "\n" for name in [*drawn, *recorded]).encode(),
-            ("replay", "stdout"): output(drawn, seen) + output(recorded, seen_recorded)}
-    check_refusals(seen)
+    groups = drawn, read, recorded = make.drawn(), make.read(), make.recorded()
+    seen = [collections.Counter() for _ in groups]
+    want = {("replay", "args"): "".join(name + "\n" for group in groups for name in group).encode(),
+            ("replay", "stdout"): b"".join(map(output, groups, seen))}
+    check_refusals(seen[0], DRAWING)
+    check_refusals(seen[1], READING)
     write, files = sys.argv[1:] == ["--write"], make.files()
     if write:
         stored.store_data("replay", files)
     stored.hold_data("replay", files)
     stored.hold(want, write)
-    for call, numbers in REFUSED.items():
-        print("%s: %d answers, refused %s" % (
-            call, seen[call, 0], ", ".join("%d: %d" % (number, seen[call, number]) for number in numbers)))
-    of_recorded = sum(len(of_font) for sections in recorded.values() for _, of_font in sections)
-    print("replay: %d calls in %d files, and %d recorded ones in %d, are as made, and the output agrees with the model"
-          % (sum(seen.values()), len(drawn), of_recorded, len(recorded)))
+    print("replay: %d calls that draw in %d files, %d that read in %d and %d recorded ones in %d are as made, and the "
+          "output agrees with the model" % (
+              counted(seen[0], DRAWING), len(drawn), counted(seen[1], READING), len(read),
+              counted(seen[2], {**DRAWING, **READING}), len(recorded)))
 
 
 if __name__ == "__main__":

@@ -1,5 +1,6 @@
 """The files of crates/replay/data: fonts, and calls on each."""
-from recorded import questions
+from fonts import questions as reading
+from recorded import questions as recorded_ones
 from replay import glyphs, texts
 from replay.calls import content
 
@@ -13,10 +14,14 @@ def drawn():
     return named([*glyphs.topics(), *texts.topics()])
 
 
+def read():
+    return named(reading.topics())
+
+
 def recorded():
     """the calls to which the answers of 000 are kept, in tests/recorded"""
-    return named(questions.topics())
+    return named(recorded_ones.topics())
 
 
 def files():
-    return {name: content(sections) for name, sections in {**drawn(), **recorded()}.items()}
+    return {name: content(sections) for name, sections in {**drawn(), **read(), **recorded()}.items()}

@@ -45,7 +45,7 @@ use crate::Refusal;
 ///
 /// ```
 /// # use thalluskin::Font;
-/// # let file = include_bytes!("../../../crates/inspect/data/f.pcf");
+/// # let file = include_bytes!("../../../examples/f.pcf");
 /// let font = Font::vet(file)?; // its glyphs are 3 by 3
 /// assert_eq!(font.text_check(b"01", 6 * 3, 0, None, 6, 1)?.dropped, 1);
 /// assert_eq!(font.text_check(b"01", 6 * 4, 0, None, 6, 1)?.dropped, 0);
@@ -96,7 +96,7 @@ impl<'a> Font<'a> {
     /// entries); 8.
     ///
     /// ```
-    /// # let file = include_bytes!("../../../crates/inspect/data/f.pcf");
+    /// # let file = include_bytes!("../../../examples/f.pcf");
     /// let font = thalluskin::Font::load(file)?;
     /// assert_eq!(font.record().codes.low2, 0x30);
     /// # Ok::<(), thalluskin::Refusal>(())
@@ -113,7 +113,7 @@ impl<'a> Font<'a> {
     ///
     /// ```
     /// # use thalluskin::{Font, Refusal};
-    /// # let file = include_bytes!("../../../crates/inspect/data/f.pcf");
+    /// # let file = include_bytes!("../../../examples/f.pcf");
     /// assert!(Font::vet(file).is_ok());
     /// let cut = Font::vet(&file[..file.len() - 1]).unwrap_err();
     /// assert_eq!(cut, Refusal { number: Refusal::BAD_TABLE, place: 5 });
@@ -128,7 +128,7 @@ impl<'a> Font<'a> {
     ///
     /// ```
     /// # use thalluskin::{CharCode, Font, Refusal};
-    /// # let file = include_bytes!("../../../crates/inspect/data/f.pcf");
+    /// # let file = include_bytes!("../../../examples/f.pcf");
     /// let kept = *Font::vet(file)?.record();
     /// assert!(Font::with_record(file, kept).glyph(CharCode(0x30)).is_ok());
     /// assert_eq!(Font::with_record(b"", kept).glyph(CharCode(0x30)).unwrap_err().number, Refusal::BAD_TABLE);
@@ -141,7 +141,7 @@ impl<'a> Font<'a> {
     /// The bytes of the font's file.
     ///
     /// ```
-    /// # let file = include_bytes!("../../../crates/inspect/data/f.pcf");
+    /// # let file = include_bytes!("../../../examples/f.pcf");
     /// assert_eq!(thalluskin::Font::load(file)?.bytes(), file);
     /// # Ok::<(), thalluskin::Refusal>(())
     /// ```
@@ -152,7 +152,7 @@ impl<'a> Font<'a> {
     /// What loading kept of the font's tables.
     ///
     /// ```
-    /// # let file = include_bytes!("../../../crates/inspect/data/f.pcf");
+    /// # let file = include_bytes!("../../../examples/f.pcf");
     /// let font = thalluskin::Font::load(file)?;
     /// assert_eq!((font.record().props.count, font.record().metrics.count), (0, 2));
     /// # Ok::<(), thalluskin::Refusal>(())
@@ -172,7 +172,7 @@ impl<'a> Font<'a> {
     ///
     /// ```
     /// # use thalluskin::{Font, Refusal, Value};
-    /// # let file = include_bytes!("../../../crates/inspect/data/big_two_byte.pcf");
+    /// # let file = include_bytes!("../../../examples/big_two_byte.pcf");
     /// let font = Font::load(file)?;
     /// let family = font.property(0)?;
     /// assert_eq!((family.name, family.value), (&b"FAMILY"[..], Value::String(b"Meter")));
@@ -191,7 +191,7 @@ impl<'a> Font<'a> {
     ///
     /// ```
     /// # use thalluskin::{CharCode, Font, GlyphIndex, Refusal};
-    /// # let file = include_bytes!("../../../crates/inspect/data/f.pcf");
+    /// # let file = include_bytes!("../../../examples/f.pcf");
     /// let font = Font::load(file)?;
     /// assert_eq!(font.glyph('1'.into())?, GlyphIndex(1));
     /// assert_eq!(font.glyph(CharCode(0x32)).unwrap_err().number, Refusal::NO_GLYPH);
@@ -206,7 +206,7 @@ impl<'a> Font<'a> {
     ///
     /// ```
     /// # use thalluskin::{Font, GlyphIndex, Refusal};
-    /// # let file = include_bytes!("../../../crates/inspect/data/f.pcf");
+    /// # let file = include_bytes!("../../../examples/f.pcf");
     /// let font = Font::load(file)?;
     /// assert_eq!(font.name(GlyphIndex(0))?, b"nil");
     /// assert_eq!(font.name(GlyphIndex(2)).unwrap_err().number, Refusal::NO_NAME);
@@ -221,7 +221,7 @@ impl<'a> Font<'a> {
     ///
     /// ```
     /// # use thalluskin::{Font, GlyphIndex};
-    /// # let file = include_bytes!("../../../crates/inspect/data/f.pcf");
+    /// # let file = include_bytes!("../../../examples/f.pcf");
     /// let font = Font::load(file)?;
     /// let one = font.metrics(GlyphIndex(1))?;
     /// assert_eq!((one.width, one.ascent, one.descent), (3, 3, 0));
@@ -237,7 +237,7 @@ impl<'a> Font<'a> {
     ///
     /// ```
     /// # use thalluskin::{Extent, Font};
-    /// # let file = include_bytes!("../../../crates/inspect/data/f.pcf");
+    /// # let file = include_bytes!("../../../examples/f.pcf");
     /// assert_eq!(Font::load(file)?.dimensions()?, Extent { height: 3, width: 3 });
     /// # Ok::<(), thalluskin::Refusal>(())
     /// ```
@@ -250,7 +250,7 @@ impl<'a> Font<'a> {
     ///
     /// ```
     /// # use thalluskin::{Font, GlyphIndex, GlyphInfo};
-    /// # let file = include_bytes!("../../../crates/inspect/data/f.pcf");
+    /// # let file = include_bytes!("../../../examples/f.pcf");
     /// let placed = GlyphInfo { glyph: GlyphIndex(1), width: 3, height: 3, pad_top: 0, pad_left: 0 };
     /// assert_eq!(Font::load(file)?.prep_char('1'.into())?, placed);
     /// # Ok::<(), thalluskin::Refusal>(())
@@ -264,7 +264,7 @@ impl<'a> Font<'a> {
     ///
     /// ```
     /// # use thalluskin::{Font, GlyphIndex, Rows};
-    /// # let file = include_bytes!("../../../crates/inspect/data/f.pcf");
+    /// # let file = include_bytes!("../../../examples/f.pcf");
     /// let mut page = [0; 9];
     /// let rows = Font::load(file)?.draw_bitmap(GlyphIndex(0), 3, 3, &mut page, 0, 3, 1, 7)?;
     /// assert_eq!(rows, Rows { drawn: 3, dropped: 0 });
@@ -292,7 +292,7 @@ impl<'a> Font<'a> {
     ///
     /// ```
     /// # use thalluskin::{Font, Rows};
-    /// # let file = include_bytes!("../../../crates/inspect/data/f.pcf");
+    /// # let file = include_bytes!("../../../examples/f.pcf");
     /// let font = Font::load(file)?;
     /// let mut page = [0; 8];
     /// let rows = font.draw_glyph(font.prep_char('0'.into())?, &mut page, 0, 3, 1, 7)?;
@@ -318,7 +318,7 @@ impl<'a> Font<'a> {
     ///
     /// ```
     /// # use thalluskin::{Font, Refusal};
-    /// # let file = include_bytes!("../../../crates/inspect/data/f.pcf");
+    /// # let file = include_bytes!("../../../examples/f.pcf");
     /// let mut page = [0; 24];
     /// let drawn = Font::load(file)?.draw_char('0'.into(), &mut page, 0, 6, 2, 7);
     /// assert_eq!(drawn.unwrap_err().number, Refusal::BUFFER_SHORT);
@@ -346,7 +346,7 @@ impl<'a> Font<'a> {
     ///
     /// ```
     /// # use thalluskin::Font;
-    /// # let file = include_bytes!("../../../crates/inspect/data/f.pcf");
+    /// # let file = include_bytes!("../../../examples/f.pcf");
     /// let font = Font::load(file)?;
     /// let mut bits = [9; 9];
     /// assert_eq!(font.unpack_glyph(font.prep_char('1'.into())?, &mut bits, 0, 3)?, 3);
@@ -363,7 +363,7 @@ impl<'a> Font<'a> {
     ///
     /// ```
     /// # use thalluskin::{Font, TextRows};
-    /// # let file = include_bytes!("../../../crates/inspect/data/f.pcf");
+    /// # let file = include_bytes!("../../../examples/f.pcf");
     /// let font = Font::vet(file)?;
     /// let mut page = [0; 18];
     /// let rows = font.draw_string("01".as_bytes(), &mut page, 0, None, 6, 1, 7)?;
@@ -390,7 +390,7 @@ impl<'a> Font<'a> {
     ///
     /// ```
     /// # use thalluskin::{Font, Refusal, TextRows};
-    /// # let file = include_bytes!("../../../crates/inspect/data/f.pcf");
+    /// # let file = include_bytes!("../../../examples/f.pcf");
     /// let font = Font::vet(file)?;
     /// assert_eq!(font.text_check(b"01", 36, 0, Some(6), 6, 1)?, TextRows { height: 6, dropped: 0 });
     /// let no_text = font.text_check(b"0\xff", 36, 0, Some(6), 6, 1);

@@ -4,7 +4,7 @@
 //! ```
 //! use thalluskin::Font;
 //!
-//! # let file: &[u8] = include_bytes!("../../../crates/inspect/data/f.pcf");
+//! # let file: &[u8] = include_bytes!("../../../examples/f.pcf");
 //! let font = Font::vet(file)?;
 //! let mut page = [0u32; 6 * 4];
 //! let rows = font.draw_string("01".as_bytes(), &mut page, 0, Some(7), 6, 1, 1)?;

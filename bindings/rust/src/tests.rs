@@ -5,8 +5,8 @@ use std::vec::Vec;
 
 extern crate std;
 
-const F: &[u8] = include_bytes!("../../../crates/inspect/data/f.pcf");
-const BIG: &[u8] = include_bytes!("../../../crates/inspect/data/big_two_byte.pcf");
+const F: &[u8] = include_bytes!("../../../examples/f.pcf");
+const BIG: &[u8] = include_bytes!("../../../examples/big_two_byte.pcf");
 
 fn number<T>(answer: Result<T, Refusal>) -> u32 {
     answer.err().map_or(0, |refusal| refusal.number)

@@ -50,6 +50,10 @@ pub(crate) const METRICS: u8 = 13;
 
 pub(crate) const DIMENSIONS: u8 = 14;
 
+pub(crate) const ACCELERATORS: u8 = 15;
+
+pub(crate) const NAME_BYTES: u8 = 16;
+
 pub(crate) fn kind_at(c: &[u8]) -> u8 {
     byte_at(c, 0, 0)
 }

@@ -1,19 +1,24 @@
 // The calls that read. An answer is its numbers, with no line end.
+use crate::calls::ACCELERATORS;
 use crate::calls::DIMENSIONS;
 use crate::calls::LOOKUP;
 use crate::calls::METRICS;
 use crate::calls::NAME;
+use crate::calls::NAME_BYTES;
 use crate::calls::PROP;
 use crate::calls::code_at;
 use crate::calls::glyph_at;
 use crate::calls::kind_at;
 use crate::calls::number_at;
+use crate::record::accelerators;
 use crate::record::measures;
 use crate::record::record_words;
 use console::number;
 use console::refusal;
+use console::say;
 use console::say_with;
 use lookup::Found;
+use metrics::Accelerated;
 use metrics::Measured;
 use names::Named;
 use names::Span;
@@ -61,6 +66,19 @@ fn measured(answer: Measured) {
     }
 }
 
+fn accelerated(answer: Accelerated) {
+    match answer {
+        Accelerated::Accelerators(a) => accelerators(a),
+        Accelerated::Refused(r) => refusal(r),
+    }
+}
+
+fn quoted(text: &[u8]) {
+    say(b"\"");
+    say(text);
+    say(b"\"");
+}
+
 fn sized(answer: Sized) {
     match answer {
         Sized::Dimensions(d) => say_with(b"# #", &[d.height, d.width]),
@@ -76,6 +94,8 @@ pub(crate) fn reading(font: &[u8], rec: Record, c: &[u8]) {
         NAME => named(names::get_name(font, rec, glyph_at(c))),
         METRICS => measured(metrics::get_metrics(font, rec, glyph_at(c))),
         DIMENSIONS => sized(place::dimensions(font, rec)),
+        ACCELERATORS => accelerated(metrics::get_accelerators(font, rec)),
+        NAME_BYTES => quoted(names::name_bytes(font, rec, glyph_at(c))),
         _ => record_words(rec),
     }
 }

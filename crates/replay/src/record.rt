@@ -28,9 +28,9 @@ pub(crate) fn measures(m: MetricsUnpacked) {
     number(b"", m.attributes as usize);
 }
 
-fn accelerators(a: AcceleratorUnpacked) {
+pub(crate) fn accelerators(a: AcceleratorUnpacked) {
     say_with(
-        b" # # # # # # # # #",
+        b"# # # # # # # # #",
         &[
             a.format as usize,
             a.noOverlap as usize,
@@ -78,6 +78,7 @@ pub(crate) fn record_words(rec: Record) {
     let p = rec.props;
     let n = rec.names;
     table(p.big, p.count, p.records, p.strings, p.size);
+    say(b" ");
     accelerators(rec.accel);
     metrics_and_bitmaps(rec.metrics, rec.bitmaps);
     codes(rec.codes);

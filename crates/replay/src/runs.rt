@@ -28,7 +28,8 @@ fn name(kind: u8) {
     let start = 13 * (kind as usize);
     let names =
         b"change       draw_bitmap  draw_glyph   draw_char    unpack_glyph prep_char    show_glyph   \
-        draw_string  step_at      load_pcf     prop_at      get_glyph    get_name     get_metrics  dimensions   ";
+        draw_string  step_at      load_pcf     prop_at      get_glyph    get_name     get_metrics  dimensions   \
+        accelerators name_bytes   ";
     say(part_of(names, Span { start, len: 13 }));
 }
 
