@@ -1,5 +1,5 @@
 """What is asked of each font of make.py, in the form of replay/calls.py: its record, its properties, accelerators and
-dimensions, every code with a glyph, names and metrics; and the same with a record that is broken."""
+dimensions, every code, names and metrics; and the same with a record that is broken."""
 import model
 from fonts import make
 from replay.calls import asks, but
@@ -41,6 +41,7 @@ def questions(font):
     for number in range(rec["props"]["count"] + 1):
         yield asks("prop_at", code=number)
     yield from whole
+    yield asks("all_codes")
     yield from of_codes(font, rec, found)
     for number in sorted({min(rec["metrics"]["count"], 65535), 65535}):
         yield from of_glyph(number)

@@ -35,6 +35,7 @@ READING = {
     "dimensions": [6, 11],
     "accelerators": [6],
     "name_bytes": [],
+    "all_codes": [],
 }
 
 
@@ -135,6 +136,9 @@ def found(b, rec, c):
     if c["call"] == "step_at":
         step = model.utf8_step(c["text"], c["start"])
         return "end" if step is None else "code %d, next %d" % step
+    if c["call"] == "all_codes":
+        found = [code for code in range(65536) if model.lookup(b, rec, code) is not None]
+        return "have a glyph:" + "".join(" %d" % code for code in found)
     if c["call"] == "name_bytes":
         return '"%s"' % name_bytes(b, rec, c["g"]).decode("ascii")
     return " ".join(map(str, read_numbers(b, rec, c)))

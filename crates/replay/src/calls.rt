@@ -34,6 +34,7 @@ pub(crate) const UNPACK: u8 = 4;
 
 pub(crate) const PREP: u8 = 5;
 
+// 6, drawing a placed glyph with no record's test, is what is left of the kinds that draw.
 pub(crate) const TEXT: u8 = 7;
 
 pub(crate) const STEP: u8 = 8;
@@ -53,6 +54,8 @@ pub(crate) const DIMENSIONS: u8 = 14;
 pub(crate) const ACCELERATORS: u8 = 15;
 
 pub(crate) const NAME_BYTES: u8 = 16;
+
+pub(crate) const CODES: u8 = 17;
 
 pub(crate) fn kind_at(c: &[u8]) -> u8 {
     byte_at(c, 0, 0)

@@ -1,5 +1,6 @@
 // The calls that read. An answer is its numbers, with no line end.
 use crate::calls::ACCELERATORS;
+use crate::calls::CODES;
 use crate::calls::DIMENSIONS;
 use crate::calls::LOOKUP;
 use crate::calls::METRICS;
@@ -25,6 +26,7 @@ use names::Span;
 use place::Sized;
 use props::PropFound;
 use props::PropValue;
+use reads::CharCode;
 use tables::Record;
 
 // The name's start and length, then 0 and a number, or 1 and a string's start and length.
@@ -86,6 +88,24 @@ fn sized(answer: Sized) {
     }
 }
 
+fn with_glyph(font: &[u8], rec: Record, code: u32) {
+    let found = lookup::get_glyph(font, rec, CharCode(code));
+    match found {
+        Found::Glyph(_) => number(b" ", code as usize),
+        Found::Refused(_) => {}
+    }
+}
+
+// The codes that have a glyph, of all that a table can have.
+fn all_codes(font: &[u8], rec: Record) {
+    let mut code: u32 = 0;
+    say(b"have a glyph:");
+    while code < 65536 {
+        with_glyph(font, rec, code);
+        code += 1;
+    }
+}
+
 pub(crate) fn reading(font: &[u8], rec: Record, c: &[u8]) {
     let kind = kind_at(c);
     match kind {
@@ -95,6 +115,7 @@ pub(crate) fn reading(font: &[u8], rec: Record, c: &[u8]) {
         METRICS => measured(metrics::get_metrics(font, rec, glyph_at(c))),
         DIMENSIONS => sized(place::dimensions(font, rec)),
         ACCELERATORS => accelerated(metrics::get_accelerators(font, rec)),
+        CODES => all_codes(font, rec),
         NAME_BYTES => quoted(names::name_bytes(font, rec, glyph_at(c))),
         _ => record_words(rec),
     }

@@ -29,7 +29,7 @@ fn name(kind: u8) {
     let names =
         b"change       draw_bitmap  draw_glyph   draw_char    unpack_glyph prep_char    show_glyph   \
         draw_string  step_at      load_pcf     prop_at      get_glyph    get_name     get_metrics  dimensions   \
-        accelerators name_bytes   ";
+        accelerators name_bytes   all_codes    ";
     say(part_of(names, Span { start, len: 13 }));
 }
 
