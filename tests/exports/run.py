@@ -12,7 +12,7 @@ from exports.example import example  # noqa: E402
 from exports.header import header  # noqa: E402
 from exports.machine import fail, machine, native_archive  # noqa: E402
 from exports.readme import readme  # noqa: E402
-from exports.replay import replay  # noqa: E402
+from exports.replayed import replay  # noqa: E402
 from exports.rust import rust  # noqa: E402
 from exports.symbols import symbols  # noqa: E402
 from native import library  # noqa: E402
