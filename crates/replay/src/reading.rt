@@ -88,6 +88,7 @@ fn sized(answer: Sized) {
     }
 }
 
+// The code, where it has a glyph.
 fn with_glyph(font: &[u8], rec: Record, code: u32) {
     let found = lookup::get_glyph(font, rec, CharCode(code));
     match found {
@@ -96,14 +97,18 @@ fn with_glyph(font: &[u8], rec: Record, code: u32) {
     }
 }
 
-// The codes that have a glyph, of all that a table can have.
+// Each code that a table can have.
 fn all_codes(font: &[u8], rec: Record) {
     let mut code: u32 = 0;
-    say(b"have a glyph:");
     while code < 65536 {
         with_glyph(font, rec, code);
         code += 1;
     }
+}
+
+fn codes(font: &[u8], rec: Record) {
+    say(b"have a glyph:");
+    all_codes(font, rec);
 }
 
 pub(crate) fn reading(font: &[u8], rec: Record, c: &[u8]) {
@@ -115,7 +120,7 @@ pub(crate) fn reading(font: &[u8], rec: Record, c: &[u8]) {
         METRICS => measured(metrics::get_metrics(font, rec, glyph_at(c))),
         DIMENSIONS => sized(place::dimensions(font, rec)),
         ACCELERATORS => accelerated(metrics::get_accelerators(font, rec)),
-        CODES => all_codes(font, rec),
+        CODES => codes(font, rec),
         NAME_BYTES => quoted(names::name_bytes(font, rec, glyph_at(c))),
         _ => record_words(rec),
     }

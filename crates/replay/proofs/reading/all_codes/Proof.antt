@@ -15,7 +15,6 @@ all-codes-spec =
     (tie.spec
     Inv-loop
     μ-loop
-    (λ c κs. search needs)  -- say-requires
     (λ c. search needs)  -- loop-holds
     (λ c κs. search needs)  -- with-glyph-requires
     (λ c. search needs)  -- add-code
