@@ -9,7 +9,10 @@ import os
 import re
 import sys
 
-from functions import ROOT, public_functions
+sys.path.insert(0, os.path.dirname(os.path.dirname(os.path.abspath(__file__))))
+
+from common import ROOT  # noqa: E402
+from contracts.functions import public_functions  # noqa: E402
 
 # Functions that answer what they read from outside: they have an `ensures`, and no theorem.
 READING = {("console", "file_of_argument")}

@@ -1,21 +1,7 @@
 """What the model says of a case: number, place, values, and the pixels that changed."""
-import json
-
 import model
 
 OLD, COLOUR = 7, 5  # what every pixel has before, and what is drawn; as seen.txt has them
-
-
-def changed(record, changes):
-    """a copy of the record with some fields set, as {"codes.size": 3}"""
-    out = json.loads(json.dumps(record))
-    for path, value in changes.items():
-        at = out
-        *parts, last = path.split(".")
-        for part in parts:
-            at = at[part]
-        at[last] = value
-    return out
 
 
 def text_of(c):

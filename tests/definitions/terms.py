@@ -3,7 +3,7 @@ import os
 import re
 
 import model
-from definitions.answers import answer, changed, text_of
+from definitions.answers import answer, text_of
 
 NO_FONT = ("utf8_step", "hex_read", "dump")
 
@@ -105,7 +105,7 @@ def module(batch, fonts, uses, opened):
         made = None
         if call not in NO_FONT + ("load", "vet"):
             loaded = model.load(fonts[c.get("of", c["font"])])
-            made = changed(loaded, c.get("rec", {}))
+            made = model.changed(loaded, c.get("rec", {}))
             if "rec" in c:
                 rec = f"made{k}"
                 local.append(rec)

@@ -4,7 +4,8 @@ import glob
 import os
 import re
 
-from contracts.functions import ROOT, public_functions
+from common import ROOT, read
+from contracts.functions import public_functions
 
 DECLARED = re.compile(r"^\s*(?:abbrev |unfoldable )?(?:pub )?(?:record )?(\S+)(?: [({].*)? :", re.M)
 
@@ -13,13 +14,13 @@ def path(*parts):
     return os.path.join(ROOT, *parts)
 
 
-def read(*parts):
-    with open(path(*parts), encoding="utf-8") as f:
-        return f.read()
-
-
 def exists(name):
     return bool(glob.glob(path(name)))
+
+
+def files(pattern):
+    """the names of the files that there are, without their folders"""
+    return sorted(os.path.basename(found) for found in glob.glob(path(pattern)))
 
 
 @functools.lru_cache(None)

@@ -158,6 +158,9 @@ def stands(reader):
             yield f"{reader.page}: {crate} is not among the programs"
         if code.is_program(crate) and not re.search(rf"\bcrates/{crate}\b", run):
             yield f'{reader.page}: crates/{crate} does not stand under "Run"'
+    for file in code.files("crates/promises/proofs/Unique*.antt"):
+        if file not in code.read(reader.page):
+            yield f"{reader.page}: {file}, with theorems of uniqueness, is not named"
     for folder in code.folders("tests"):
         if not re.search(rf"\btests/{folder}\b", run):
             yield f'{reader.page}: tests/{folder} does not stand under "Run"'
@@ -172,10 +175,21 @@ def drawn():
             yield f"{pages.ARCHITECTURE}: {crate} stands {told.count(crate)} times in the table of crates"
 
 
+def exported():
+    """docs/CALLS.md has each function of the header once beside the call that it is"""
+    declared = re.findall(r"^thk_\w+ (thk_\w+)\(", code.read("include", "thalluskin.h"), re.M)
+    tables = [table for table in pages.tables(pages.CALLS) if "C" in table.head]
+    told = [name for table in tables for _, row in table.rows for _, name in pages.names(row[table.head.index("C")])]
+    for name in sorted({*declared, *told}):
+        if told.count(name) != 1 or name not in declared:
+            yield f"{pages.CALLS}: {name} stands {told.count(name)} times in the table of exported functions"
+
+
 def check():
     readers = [Reader(pages.PROMISES, True)]
     readers += [Reader(page, False) for page in (pages.ARCHITECTURE, pages.DECISIONS, pages.DIFFERENCES)]
     for reader in readers:
         reader.read()
     faults = [fault for reader in readers for fault in reader.faults]
-    return sum((r.counts for r in readers), collections.Counter()), faults + list(stands(readers[0])) + list(drawn())
+    faults += [*stands(readers[0]), *drawn(), *exported()]
+    return sum((r.counts for r in readers), collections.Counter()), faults

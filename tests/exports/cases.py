@@ -1,6 +1,4 @@
 """Calls of the exported functions, and what the model of document 01 answers to each."""
-import copy
-
 import model
 from dump import make as dump
 from exports import layouts
@@ -111,7 +109,7 @@ def encoded(c, same_font):
 
 
 def drawn():
-    """every call of the program crates/replay, but for the recorded ones, whose function is exported, a text's also as a dry run"""
+    """every call that draws of the program crates/replay whose function is exported, a text's also as a dry run"""
     for sections in replay.drawn().values():
         for b, of_font in sections:
             try:
@@ -119,7 +117,7 @@ def drawn():
             except model.Refused:
                 rec = NO_RECORD
             for k, c in enumerate(of_font):
-                yield from as_exported(b, expected.changed(rec, c.get("rec", {})), c, calls.colour(c, k))
+                yield from as_exported(b, model.changed(rec, c.get("rec", {})), c, calls.colour(c, k))
 
 
 def as_exported(b, rec, c, colour):
@@ -204,10 +202,7 @@ def wrong_records():
     for b in (two_digits(), distinct()):
         rec = model.load(b)
         for change in [*calls.damages(b), *calls.fitting(b)]:
-            made = copy.deepcopy(rec)
-            for path, value in change.items():
-                *parts, last = path.split("__")
-                layouts.at(made, parts)[last] = value
+            made = model.changed(rec, {path.replace("__", "."): value for path, value in change.items()})
             yield call("thk_dimensions", b, made)
             for code in (0, 0x30, 0x205):
                 yield call("thk_glyph", b, made, code=code)

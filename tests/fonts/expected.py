@@ -35,7 +35,7 @@ def main():
         with open(path, "rb") as kept:
             if kept.read() != made[name]:
                 fail("examples/%s is not what make.py makes" % name)
-    print("fonts: %d of %d fonts are kept in examples, as made; font F is that of the theorems" % (len(KEPT), len(made)))
+    print("fonts: %d of %d fonts stand in examples, as made; font F is that of the theorems" % (len(KEPT), len(made)))
 
 
 if __name__ == "__main__":

@@ -9,6 +9,7 @@ from model.dumping import dump, hex_read
 from model.flattening import METRIC_FIELDS, flat_accel, flat_info, flat_metrics, flat_record
 from model.loading import load
 from model.metrics import dimensions, get_accelerators, get_metrics, metrics_at, prep_char
+from model.record import changed
 from model.refusal import Refused
 from model.strings import get_name, prop_at
 from model.texts import draw_string, text_check

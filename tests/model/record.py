@@ -1,5 +1,19 @@
-"""The test that every call makes of the record that it is given (6)."""
+"""The record that a call is given: the test that every call makes of it (6), and records that are made up."""
+import copy
+
 from model.refusal import Refused
+
+
+def changed(rec, changes):
+    """a copy of the record with some fields set, as {"codes.size": 3}"""
+    made = copy.deepcopy(rec)
+    for path, value in changes.items():
+        *parts, last = path.split(".")
+        at = made
+        for part in parts:
+            at = at[part]
+        at[last] = value
+    return made
 
 
 def check_record(b, rec):

@@ -11,10 +11,10 @@ import re
 import sys
 
 HERE = os.path.dirname(os.path.abspath(__file__))
-TESTS = os.path.dirname(HERE)
-STDOUT = os.path.join(os.path.dirname(TESTS), "crates", "replay", "stdout")
-sys.path.insert(0, TESTS)
+sys.path.insert(0, os.path.dirname(HERE))
 
+import stored  # noqa: E402
+from common import fail  # noqa: E402
 from model import flattening  # noqa: E402
 from replay import make  # noqa: E402
 
@@ -39,8 +39,7 @@ class Differs(Exception):
 
 def ours():
     """by file, the lines that the program writes"""
-    with open(STDOUT, encoding="ascii") as f:
-        parts = re.split(r"^== (.*)\n", f.read(), flags=re.MULTILINE)
+    parts = re.split(r"^== (.*)\n", stored.read("replay", "stdout").decode("ascii"), flags=re.MULTILINE)
     return {name: text.splitlines() for name, text in zip(parts[1::2], parts[2::2])}
 
 
@@ -73,7 +72,10 @@ def kept(numbers):
     """what 000 keeps of the record with these numbers, in the order of record.rs: no byte order of compressed metrics,
     which stands as 0; the row pad as its code; whether codes have one byte; no default code, and not how many bytes the
     code entries have, of which it sees half"""
-    rec = dict(zip(field_names(), numbers, strict=True))
+    fields = list(field_names())
+    if len(fields) != len(numbers):
+        raise Differs("a record has %d numbers, not %d" % (len(fields), len(numbers)))
+    rec = dict(zip(fields, numbers))
     rec["metrics.big"] *= not rec["metrics.compressed"]
     rec["bitmaps.pad"] = (1, 2, 4, 8).index(rec["bitmaps.pad"])
     rec["codes.one_byte"] = int(rec["codes.low1"] == rec["codes.high1"] == 0)
@@ -139,11 +141,6 @@ def compare_file(name, sections, our_lines, tally):
             tally[call["call"], compare(call, our, their)] += 1
         except Differs as why:
             fail("%s, line %d: %s\n  the port: %s\n  000:      %s" % (name, number, why, our, their))
-
-
-def fail(text):
-    print(text)
-    sys.exit(1)
 
 
 def main():

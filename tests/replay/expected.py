@@ -4,7 +4,6 @@ call in the files of crates/replay/data; and the files to what make.py makes.
 
 With --write the data, the arguments and the output are stored anew."""
 import collections
-import copy
 import os
 import sys
 
@@ -40,17 +39,6 @@ READING = {
 
 
 # ---- what the model answers
-
-
-def changed(rec, changes):
-    made = copy.deepcopy(rec)
-    for path, value in changes.items():
-        *parts, last = path.split(".")
-        at = made
-        for part in parts:
-            at = at[part]
-        at[last] = value
-    return made
 
 
 def before(length):
@@ -173,7 +161,7 @@ def lines(b, of_font, seen):
         yield "%-12s %s" % ("load_pcf", r)
         return
     for k, c in enumerate(of_font):
-        text, number = line(b, changed(loaded, c.get("rec", {})), c, calls.colour(c, k))
+        text, number = line(b, model.changed(loaded, c.get("rec", {})), c, calls.colour(c, k))
         seen[c["call"], number] += 1
         yield text
 
