@@ -120,7 +120,7 @@ fn wide(n: i16) -> i32 {
     n as i32
 }
 
-// The same with signed numbers, of four bytes and of two.
+// As `say_with`, with signed numbers: of four bytes, and below of two.
 pub fn say_signed(text: &[u8], numbers: &[i32]) {
     let mut at = say_to_mark(text, 0);
     let mut i = 0;

@@ -4,7 +4,6 @@ use lib.ListN.{length-replicate}
 use Rattle.panel.proofs.room.Statement.{statement}
 use Rattle.panel.proofs.room.Tie as tie
 
--- src/main.rt:110:1
 returns : tie.Need-returns
 returns c = sym (length-replicate {0} {A = ℕ} 639005 0)
 
