@@ -58,7 +58,8 @@ def main():
             bad.append(f"{crate}::{name} has no theorem that its contract determines its answer")
         elif theorems[crate, name] != ("&mut" in clauses):
             bad.append(f"{crate}::{name} has a theorem that leaves out the lent buffer, or speaks of none")
-    bad += [f"{crate}::{name} has a theorem, but is no public function" for crate, name in sorted(set(theorems) - found)]
+    lost = sorted(set(theorems) - found)
+    bad += [f"{crate}::{name} has a theorem, but is no public function" for crate, name in lost]
     bad += [f"{crate}::{name} reads, but is no public function" for crate, name in sorted(READING - found)]
     for line in bad:
         print(line)
