@@ -16,6 +16,7 @@ import shutil
 import subprocess
 import sys
 import tempfile
+import time
 
 HERE = os.path.dirname(os.path.abspath(__file__))
 sys.path.insert(0, os.path.dirname(HERE))
@@ -132,9 +133,11 @@ def main():
         fonts = [bytes.fromhex(line.strip()) for line in f]
     with open(os.path.join(HERE, "cases.jsonl"), encoding="ascii") as f:
         cases = [json.loads(line) for line in f]
+    begun = time.monotonic()
     ended, said = computed(cases, fonts)
     if ended == 0:
-        print(f"definitions: {len(cases)} cases computed, each answers as the model does")
+        took = time.monotonic() - begun
+        print(f"definitions: {len(cases)} cases computed in {took:.0f} seconds, each answers as the model does")
         return 0
     bad = sorted({int(k) for k in re.findall(r"error: `case(\d+)`", said)})
     for k in bad[:20]:
