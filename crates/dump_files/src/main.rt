@@ -2,8 +2,7 @@
 ghost use mathlib.Core.Path.{_≡_};
 ghost use lib.ListN.{length};
 
-// Room for the longest file of data/ and a byte more. Its length comes from a law: to count so far takes the prover
-// seconds.
+// Room for the longest file of data/ and a byte more. Its length comes from a law, so that it need not be counted.
 fn room() -> [u8; 147460]
     ensures { λ r. ⌜ 147460 ≡ length r ⌝ }
 {
