@@ -45,6 +45,14 @@ module _ (w : Width) (n : ℕ) (h : 2 ^ hbits w ≤ n) (l : n < 2 ^ bits w) wher
   pub half-is : toZ w (ofZ w (negsuc 0 -ℤ toZ w (2 ^ bits w - 1 - n))) ≡ toZ w n
   half-is = toZ-ofZ half-fits ∙ from-half w n h l
 
+-- a number that is m, read as signed
+module _ (w : Width) (b n m : ℕ) (is : n ≡ m) (whole : bits w ≡ 8 * b) (half : hbits w ≡ 8 * b - 1) where
+  pub reads-below : toZ w n ≡ signed b m
+  reads-below = signed-is w b n whole half ∙ ap (signed b) is
+
+  pub reads-above : 2 ^ hbits w ≤ n → n < 2 ^ bits w → toZ w (ofZ w (negsuc 0 -ℤ toZ w (2 ^ bits w - 1 - n))) ≡ signed b m
+  reads-above h l = half-is w n h l ∙ reads-below
+
 -- the size of a choice
 pub mag-cond : (t : Bool) (x y : ℤ) (h : ℕ) → mag x ≤ h → mag y ≤ h → mag (cond t x y) ≤ h
 mag-cond true x y h p q = p
@@ -57,3 +65,9 @@ metric-fits b h = record { sfits = omega (arith, mag-cond (ltb b 128) (negsuc (1
 pub metric-is : (b : ℕ) → b < 256 → toZ w16 b -ℤ pos 128 ≡ less128 b
 unfolding less128
 metric-is b h = ap (λ (z : ℤ). z -ℤ pos 128) (toZ-pos w16 {n = b} (omega arith))
+
+pub shifted-fits : (b : ℕ) → b < 256 → SFits w16 (toZ w16 b -ℤ pos 128)
+shifted-fits b h = rw (metric-is b h) (metric-fits b h)
+
+pub shifted-is : (b : ℕ) → b < 256 → toZ w16 (ofZ w16 (toZ w16 b -ℤ pos 128)) ≡ less128 b
+shifted-is b h = rw (metric-is b h) (toZ-ofZ (metric-fits b h))

@@ -1,4 +1,4 @@
--- The laws of tests: a test by subtraction is the test of the whole sum, and what a test's answer tells.
+-- The laws of tests: what a test's answer tells.
 use mathlib.Core.Path.{_≡_, refl, sym, subst, _∙_}
 use mathlib.Core.Bool.{Bool, true, false, cond, _&&_}
 use Prim.Native.Nat.{ℕ, _≤_, _<_}
