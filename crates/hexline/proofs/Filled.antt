@@ -1,12 +1,14 @@
--- What a buffer holds after the bytes were put into it, for a caller that lends the first n of them on.
-use Prim.Native.Nat.{ℕ, _≤_}
+-- What a buffer holds after the bytes were put into it: for the code that puts them, and for a caller that lends the first n of them on.
+use Prim.Native.Nat.{ℕ, _≤_, _<_}
 use native.Mathlib.Omega.{arith}
 use mathlib.Core.Path.{_≡_, sym, ap, _∙_}
 use mathlib.Core.List.{List, _++_}
 use lib.ListN.{length, take, drop, length-append}
 use lib.Seq.{take-at}
 use lib.Dec.{ltb}
-use borrow.Author.Tests.{le-ltb, ltb-false}
+use borrow.Author.Tests.{lt-ltb, le-ltb, ltb-false}
+use Rattle.reads.specs.Said.{refusal}
+use Rattle.reads.specs.declared.Refusal.{Refusal}
 use Rattle.reads.proofs.Tests.{never, split}
 use Rattle.hexline.specs.Lines.{hexRead, hexBytes}
 use Rattle.hexline.specs.Fill.{fitted, hexInto, hexLeaves}
@@ -52,3 +54,29 @@ room-enough text room h =
     either-answer (hexRead text)
     (λ n e. rw (e, le-ltb room n (omega (arith, h, bytes-most text n e))))
     (λ q e. rw e)
+
+-- ---- the answer and the buffer, by what was read
+
+module _ (text old : List ℕ) (read : HexRead) (read-is : read ≡ hexRead text) where
+  pub not-read : (q : Refusal) → read ≡ HexRead.Refused q → HexRead.Refused q ≡ hexInto text (length old)
+  unfolding hexInto
+  not-read q e = rw (← read-is, e)
+
+  module _ (n : ℕ) (e : read ≡ HexRead.Bytes n) where
+    pub no-room : length old < n → HexRead.Refused (refusal 15 0) ≡ hexInto text (length old)
+    unfolding hexInto
+    no-room h = rw (← read-is, e, lt-ltb _ _ h)
+
+    pub fills-read : hexRead text ≡ HexRead.Bytes (length (hexBytes text))
+    fills-read = let r = sym read-is ∙ e in r ∙ ap HexRead.Bytes (sym (bytes-count text n r))
+
+    module _ (h : n ≤ length old) where
+      pub fills-room : length (hexBytes text) ≤ length old
+      fills-room = omega (arith, bytes-count text n (sym read-is ∙ e))
+
+      pub fills-into : HexRead.Bytes n ≡ hexInto text (length old)
+      unfolding hexInto
+      fills-into = rw (← read-is, e, le-ltb _ _ h)
+
+    pub fills-leaves : (new : List ℕ) → new ≡ hexLeaves text (hexRead text) old → new ≡ hexLeaves text (HexRead.Bytes n) old
+    fills-leaves new is = rw (sym read-is ∙ e) at is

@@ -1,6 +1,6 @@
 -- The lines character by character: what is left of a text says the same after its next character, or that character makes its line
 -- bad. A line is known by how many of its digits were read, so that no character is looked at twice.
-use Prim.Native.Nat.{ℕ, suc, _+_, _/_, _%_, _≤_, _<_}
+use Prim.Native.Nat.{ℕ, suc, _+_, _-_, _/_, _%_, _≤_, _<_}
 use native.Mathlib.Nat.{add-zero, zero-add}
 use native.Mathlib.Numerals.{add-one}
 use native.Mathlib.Omega.{arith}
@@ -15,6 +15,32 @@ use Rattle.reads.specs.Range.{between}
 use Rattle.reads.proofs.Tests.{either}
 use Rattle.hexline.specs.Lines.{inFront, linesOf, digitOf, allDigits, goodLine, isEmpty, badLine, bytesFrom, hexRead}
 use Rattle.hexline.specs.declared.HexRead.{HexRead}
+
+-- ---- a character's value as a digit
+
+module _ (c : ℕ) where
+  pub before-digits : c < 48 → 16 ≡ digitOf c
+  unfolding digitOf
+  before-digits h = simp (lt-leb _ _ h, lt-leb 65 c (omega arith))
+
+  pub digit : 48 ≤ c → c ≤ 57 → c - 48 ≡ digitOf c
+  unfolding digitOf
+  digit l h = simp (le-leb _ _ l, le-leb _ _ h)
+
+  module _ (l : 48 ≤ c) (m : 57 < c) where
+    pub before-letters : c < 65 → 16 ≡ digitOf c
+    unfolding digitOf
+    before-letters h = simp (le-leb _ _ l, lt-leb _ _ m, lt-leb _ _ h)
+
+    pub letter : 65 ≤ c → c ≤ 70 → c - 55 ≡ digitOf c
+    unfolding digitOf
+    letter n h = simp (le-leb _ _ l, lt-leb _ _ m, le-leb _ _ n, le-leb _ _ h)
+
+    pub after-letters : 70 < c → 16 ≡ digitOf c
+    unfolding digitOf
+    after-letters h = simp (le-leb _ _ l, lt-leb _ _ m, le-leb 65 c (omega arith), lt-leb _ _ h)
+
+-- ---- a line of which some digits were read
 
 -- a good line, of which d digits stand before these characters
 abbrev goodAfter : ℕ → List ℕ → Bool
@@ -35,11 +61,6 @@ no-digits : (ls : List (List ℕ)) (rest : List ℕ) (k n : ℕ) → lineOn ls r
 unfolding lineOn bytesFrom goodLine
 no-digits [] rest k n = rw (and-true (isEmpty rest))
 no-digits (l ∷ ls) rest k n = rw (zero-add (length l))
-
--- the whole text, before its first character
-pub from-start : (s : List ℕ) → onward s 1 0 0 ≡ hexRead s
-unfolding hexRead
-from-start s = no-digits (linesOf s .ended) (linesOf s .rest) 1 0
 
 pub next-character : (s : List ℕ) (i : ℕ) → i < length s → drop i s ≡ getD s i 0 ∷ drop (i + 1) s
 next-character s i h = rw (add-one, drop-cons s i 0)
@@ -67,68 +88,98 @@ module _ (c k n d : ℕ) where
       let e : d + suc (length l) ≡ d + 1 + length l = omega arith in
       rw (lt-ltb (digitOf c) 16 h, e)
 
--- what is left of a text from place i on, by the character there
-module _ (s : List ℕ) (i k n d : ℕ) (h : i < length s) where
-  abbrev left : HexRead
-  left = onward (drop i s) k n d
+-- where the reading of a text stands, at place i: in the line of this number, after n bytes and d digits of the line
+pub record Reading (s : List ℕ) (line n d i : ℕ) : Type 0 where
+  pub inside : i ≤ length s
+  pub lines : line ≤ n + 1
+  pub bytes : n ≤ 49152
+  pub digits : d ≤ 64
+  pub says : onward (drop i s) line n d ≡ hexRead s
 
-  abbrev later : List ℕ
-  later = drop (i + 1) s
+pub first-line : (s : List ℕ) → Reading s 1 0 0 0
+unfolding hexRead
+first-line s =
+    record { inside = omega arith; lines = omega arith; bytes = omega arith; digits = omega arith; says = no-digits (linesOf s .ended) (linesOf s .rest) 1 0 }
 
-  here : left ≡ onward (getD s i 0 ∷ later) k n d
-  here = ap (λ (t : List ℕ). onward t k n d) (next-character s i h)
+module _ (s : List ℕ) (line n d i : ℕ) (now : Reading s line n d i) where
+  module _ (h : i < length s) where
+    here : hexRead s ≡ onward (getD s i 0 ∷ drop (i + 1) s) line n d
+    here = sym (now .says) ∙ ap (λ (t : List ℕ). onward t line n d) (next-character s i h)
 
-  at-newline : getD s i 0 ≡ 10
-      → left ≡ cond (between 2 64 d && eqb (d % 2) 0)
-      (cond (leb (n + d / 2) 49152) (onward later (k + 1) (n + d / 2) 0) (badLine k)) (badLine k)
-  unfolding linesOf lineOn allDigits
-  at-newline e =
-      here
-      ∙ rw (
-        eq-eqb (getD s i 0) 10 e,
-        add-zero d,
-        and-true (between 2 64 d && eqb (d % 2) 0),
-        no-digits (linesOf later .ended) (linesOf later .rest) (k + 1) (n + d / 2),
-      )
+    module _ (newline : getD s i 0 ≡ 10) where
+      at-newline : hexRead s
+          ≡ cond (between 2 64 d && eqb (d % 2) 0)
+          (cond (leb (n + d / 2) 49152) (onward (drop (i + 1) s) (line + 1) (n + d / 2) 0) (badLine line)) (badLine line)
+      unfolding linesOf lineOn allDigits
+      at-newline =
+          let later = linesOf (drop (i + 1) s) in
+          here
+          ∙ rw (
+            eq-eqb (getD s i 0) 10 newline,
+            add-zero d,
+            and-true (between 2 64 d && eqb (d % 2) 0),
+            no-digits (later .ended) (later .rest) (line + 1) (n + d / 2),
+          )
 
-  elsewhere : (getD s i 0 ≡ 10 → ⊥) → left ≡ fronted (getD s i 0) k n d (linesOf later .ended) (linesOf later .rest)
-  unfolding linesOf
-  elsewhere e = here ∙ rw (ne-eqb (getD s i 0) 10 e)
+      -- "2 to 64 [...] digits"
+      pub too-short : (r : HexRead) → d < 2 → r ≡ badLine line → r ≡ hexRead s
+      too-short r l is = is ∙ sym (at-newline ∙ rw (lt-leb 2 d l))
 
-  -- "2 to 64 [...] digits"
-  pub too-short : getD s i 0 ≡ 10 → d < 2 → badLine k ≡ left
-  too-short e l = sym (at-newline e ∙ rw (lt-leb 2 d l))
+      -- "even in number"
+      pub odd : (r : HexRead) → d % 2 ≡ 1 → r ≡ badLine line → r ≡ hexRead s
+      odd r o is = is ∙ sym (at-newline ∙ rw (ne-eqb (d % 2) 0 (λ z. omega (arith, z, o)), and-false (between 2 64 d)))
 
-  -- "even in number"
-  pub odd : getD s i 0 ≡ 10 → d % 2 ≡ 1 → badLine k ≡ left
-  odd e o = sym (at-newline e ∙ rw (ne-eqb (d % 2) 0 (λ z. omega (arith, z, o)), and-false (between 2 64 d)))
+      pub too-many : (r : HexRead) → 49152 < n + d / 2 → r ≡ badLine line → r ≡ hexRead s
+      too-many r m is =
+          is
+          ∙ sym (at-newline ∙ rw (lt-leb (n + d / 2) 49152 m)
+          (either (λ (x : HexRead). x ≡ badLine line) (between 2 64 d && eqb (d % 2) 0) refl refl))
 
-  pub too-many : getD s i 0 ≡ 10 → 49152 < n + d / 2 → badLine k ≡ left
-  too-many e m =
-      sym (at-newline e ∙ rw (lt-leb (n + d / 2) 49152 m)
-      (either (λ (r : HexRead). r ≡ badLine k) (between 2 64 d && eqb (d % 2) 0) refl refl))
+      pub next-line : 2 ≤ d → (d % 2 ≡ 1 → ⊥) → n + d / 2 ≤ 49152 → Reading s (line + 1) (n + d / 2) 0 (i + 1)
+      next-line two even m =
+          let z : d % 2 ≡ 0 = omega (arith, even) in
+          record {
+            inside = omega arith;
+            lines = omega arith;
+            bytes = m;
+            digits = omega arith;
+            says = sym (at-newline ∙ rw (le-leb 2 d two, le-leb d 64 (now .digits), eq-eqb (d % 2) 0 z, le-leb (n + d / 2) 49152 m));
+          }
 
-  pub line-ends : getD s i 0 ≡ 10 → 2 ≤ d → d ≤ 64 → (d % 2 ≡ 1 → ⊥) → n + d / 2 ≤ 49152 → onward later (k + 1) (n + d / 2) 0 ≡ left
-  line-ends e two sixty even m =
-      let z : d % 2 ≡ 0 = omega (arith, even) in
-      sym (at-newline e ∙ rw (le-leb 2 d two, le-leb d 64 sixty, eq-eqb (d % 2) 0 z, le-leb (n + d / 2) 49152 m))
+    module _ (other : getD s i 0 ≡ 10 → ⊥) where
+      elsewhere : let later = linesOf (drop (i + 1) s) in hexRead s ≡ fronted (getD s i 0) line n d (later .ended) (later .rest)
+      unfolding linesOf
+      elsewhere = here ∙ rw (ne-eqb (getD s i 0) 10 other)
 
-  -- "upper-case hexadecimal digits"
-  pub no-digit : (getD s i 0 ≡ 10 → ⊥) → 16 ≤ digitOf (getD s i 0) → badLine k ≡ left
-  no-digit e g = sym (elsewhere e ∙ front-strange (getD s i 0) k n d g (linesOf later .ended) (linesOf later .rest))
+      pub too-long : (r : HexRead) → 64 ≤ d → r ≡ badLine line → r ≡ hexRead s
+      too-long r g is =
+          let later = linesOf (drop (i + 1) s) in
+          is ∙ sym (elsewhere ∙ front-long (getD s i 0) line n d g (later .ended) (later .rest))
 
-  pub too-long : (getD s i 0 ≡ 10 → ⊥) → 64 ≤ d → badLine k ≡ left
-  too-long e g = sym (elsewhere e ∙ front-long (getD s i 0) k n d g (linesOf later .ended) (linesOf later .rest))
+      module _ (digit : ℕ) (digit-is : digit ≡ digitOf (getD s i 0)) where
+        -- "upper-case hexadecimal digits"
+        pub no-digit : (r : HexRead) → 16 ≤ digit → r ≡ badLine line → r ≡ hexRead s
+        no-digit r g is =
+            let later = linesOf (drop (i + 1) s) in
+            is ∙ sym (elsewhere ∙ front-strange (getD s i 0) line n d (omega arith) (later .ended) (later .rest))
 
-  pub one-more : (getD s i 0 ≡ 10 → ⊥) → digitOf (getD s i 0) < 16 → onward later k n (d + 1) ≡ left
-  one-more e g = sym (elsewhere e ∙ front-digit (getD s i 0) k n d g (linesOf later .ended) (linesOf later .rest))
+        pub next-digit : digit < 16 → d < 64 → Reading s line n (d + 1) (i + 1)
+        next-digit g few =
+            let later = linesOf (drop (i + 1) s) in
+            record {
+              inside = omega arith;
+              lines = now .lines;
+              bytes = now .bytes;
+              digits = omega arith;
+              says = sym (elsewhere ∙ front-digit (getD s i 0) line n d (omega arith) (later .ended) (later .rest));
+            }
 
--- "each ended by a newline": the text's end
-module _ (s : List ℕ) (i k n d : ℕ) (h : length s ≤ i) where
-  pub whole : d ≡ 0 → HexRead.Bytes n ≡ onward (drop i s) k n d
-  unfolding linesOf lineOn
-  whole e = rw (drop-of-length-le s h, e)
+  -- "each ended by a newline": the text's end
+  module _ (h : length s ≤ i) where
+    pub whole : d ≡ 0 → HexRead.Bytes n ≡ hexRead s
+    unfolding linesOf lineOn
+    whole e = (rw (drop-of-length-le s h, e)) ∙ now .says
 
-  pub unended : (d ≡ 0 → ⊥) → badLine k ≡ onward (drop i s) k n d
-  unfolding linesOf lineOn
-  unended e = rw (drop-of-length-le s h, ne-eqb d 0 e)
+    pub unended : (r : HexRead) → (d ≡ 0 → ⊥) → r ≡ badLine line → r ≡ hexRead s
+    unfolding linesOf lineOn
+    unended r e is = is ∙ (rw (drop-of-length-le s h, ne-eqb d 0 e)) ∙ now .says

@@ -1,2 +1,3 @@
 pub mod EntryInside
 pub mod OutsideRange
+pub mod Slots

@@ -2,13 +2,12 @@
 use Prim.Native.Nat.{ℕ, _+_, _-_, _*_, _/_, _%_}
 use mathlib.Core.Bool.{Bool, cond, _&&_}
 use mathlib.Core.List.{List, [], _∷_}
-use lib.ListN.{length}
 use lib.Dec.{ltb, eqb}
 use lib.IntN.{pos}
 use Rattle.reads.specs.Num.{u16At}
 use Rattle.reads.specs.Range.{between}
 use Rattle.reads.specs.Said.{Said, refusal, says, refuses}
-use Rattle.tables.specs.Fits.{recordFits}
+use Rattle.tables.specs.Fits.{tested}
 use Rattle.tables.specs.declared.EncodingData.{EncodingData}
 use Rattle.tables.specs.declared.Record.{Record}
 use Rattle.lookup.specs.declared.Found.{Found}
@@ -53,7 +52,7 @@ glyphOf s c code = glyphAt s c (slotOf c code)
 
 -- `get_glyph`: 6, 9
 unfoldable pub getGlyph : List ℕ → Record → ℕ → Found
-getGlyph s rec code = cond (recordFits (length s) rec) (glyphOf s (rec .codes) code) (Found.Refused (refusal 6 0))
+getGlyph s rec code = tested Found.Refused s rec (glyphOf s (rec .codes) code)
 
 abbrev pub saidFound : Found → Said
 saidFound (Found.Glyph g) = says (pos (g .0) ∷ [])

@@ -13,9 +13,10 @@ use Rattle.utf8.specs.Decode.{Char, Decoded, chars, refused, consChar, a
 use Rattle.utf8.specs.WellFormed.{Sequence, Each, joined, WellFormed, IllFormed}
 use Rattle.utf8.specs.declared.Checked.{Checked}
 use Rattle.utf8.specs.declared.Step.{Step}
-use Rattle.utf8.proofs.Characters.{Stands, step-end, step-sequence, step-last, step-refused, step-none, sequence-step}
+use Rattle.utf8.proofs.Characters.{Stands, step-sequence, step-last, step-refused, step-none, sequence-step}
+use Rattle.utf8.proofs.Steps.{past-end}
 use Rattle.utf8.proofs.Walk.{step-within}
-use Rattle.utf8.proofs.Rest.{Answer, answer-all, answer-char, answer-end, answer-bad}
+use Rattle.utf8.proofs.Rest.{Answer, answer-all, answer-next, answer-end, answer-bad}
 
 -- ---- one sequence more in front
 
@@ -81,13 +82,13 @@ module _ (text : List ℕ) where
       let c = sequence-step text i q (joined qs ++ rest) f d in
       let next : drop (i + length q) text ≡ joined qs ++ rest = sym (drop-drop (length q) i text) ∙ ap (λ (r : List ℕ). drop (length q) r) d ∙ drop-append-seam q (joined qs ++ rest) in
       let sum : i + length q + length (joined qs) ≡ i + length (q ++ joined qs) = omega (arith, length-append q (joined qs)) in
-      subst (λ (k : ℕ). Answer text k a) sum (answer-parts qs fs (i + length q) rest a next (answer-char text i a (c .0) (i + length q) x (c .1)))
+      subst (λ (k : ℕ). Answer text k a) sum (answer-parts qs fs (i + length q) rest a next (answer-next text i a (stepAt text i) x refl (c .0) (i + length q) (c .1)))
 
   well-accepted : WellFormed text → checked (decoded text) ≡ Checked.Whole
   well-accepted w =
       let n = length (joined (w .parts)) in
       let x = answer-parts (w .parts) (w .each) 0 [] (checked (decoded text)) (w .is ∙ sym (append-nil (joined (w .parts)))) (answer-all text) in
-      answer-end text (0 + n) (checked (decoded text)) x (step-end text (0 + n) (omega (arith, ap (λ (r : List ℕ). length r) (w .is))))
+      sym (answer-end text (0 + n) (checked (decoded text)) Step.End x (past-end text (0 + n) (omega (arith, ap (λ (r : List ℕ). length r) (w .is)))) refl)
 
   none-refused : (p : ℕ) → IllFormed text p → stepAt text p ≡ Step.Refused (refusal 19 p)
   none-refused p x = by (stepAt text p) refl
@@ -105,9 +106,9 @@ module _ (text : List ℕ) where
   ill-refused p x =
       let w = x .before in
       let e : text ≡ joined (w .parts) ++ drop p text = sym (take-append-drop p text) ∙ ap (λ (r : List ℕ). r ++ drop p text) (w .is) in
-      let at : 0 + length (joined (w .parts)) ≡ p = omega (arith, ap (λ (r : List ℕ). length r) (w .is), length-take-le p text (omega (arith, x .inside))) in
+      let place : 0 + length (joined (w .parts)) ≡ p = omega (arith, ap (λ (r : List ℕ). length r) (w .is), length-take-le p text (omega (arith, x .inside))) in
       let y = answer-parts (w .parts) (w .each) 0 (drop p text) (checked (decoded text)) e (answer-all text) in
-      answer-bad text p (checked (decoded text)) (refusal 19 p) (subst (λ (k : ℕ). Answer text k (checked (decoded text))) at y) (none-refused p x)
+      sym (answer-bad text p (checked (decoded text)) (stepAt text p) (rw place at y) refl (refusal 19 p) (none-refused p x))
 
   whole-well : (d : Decoded) → Told 0 d → checked d ≡ Checked.Whole → WellFormed text
   whole-well (chars cs) w e = w

@@ -7,7 +7,7 @@ use native.Mathlib.Omega.{arith}
 use lib.Dec.{eqb, leb, ltb}
 use lib.ListN.{length, take, drop, length-drop, take-append-drop}
 use lib.Seq.{drop-cons, drop-drop, length-take-le}
-use borrow.Author.Tests.{le-leb, leb-true, lt-ltb, le-ltb, ltb-true, ltb-false}
+use borrow.Author.Tests.{le-leb, leb-true, lt-ltb, ltb-true, ltb-false}
 use Rattle.reads.specs.Num.{byteAt}
 use Rattle.reads.specs.Range.{between}
 use Rattle.reads.specs.Said.{refusal}
@@ -20,6 +20,7 @@ use Rattle.utf8.specs.WellFormed.{range, tail, Sequence}
 use Rattle.utf8.specs.declared.Lead.{Lead}
 use Rattle.utf8.specs.declared.Step.{Step}
 use Rattle.utf8.proofs.Leads.{lead-bounds}
+use Rattle.utf8.proofs.Steps.{past-end}
 use Rattle.utf8.proofs.Lines.{after, after-length, later, sequence-some, sequence-follow, follow-sequence, begins, begins-at, begins-fits, fits-begins}
 
 -- the bytes after i begin with such as the lead says
@@ -65,9 +66,13 @@ inner-is (suc zero) low high s i h l = refl
 inner-is (suc (suc zero)) low high s i h l =
     rw (begins-at s (i + 1) (i + 2) (omega arith) (range low high) [] (l (omega arith))) (two (between low high (byteAt s (i + 1))) _ _)
 inner-is (suc (suc (suc zero))) low high s i h l =
-    rw (begins-at s (i + 1) (i + 2) (omega arith) (range low high) (tail ∷ []) (l (omega arith)), begins-at s (i + 2) (i + 3) (omega arith) tail [] (omega arith)) (three (between low high (byteAt s (i + 1))) (continues (byteAt s (i + 2))) _ _)
+    rw (begins-at s (i + 1) (i + 2) (omega arith) (range low high) (tail ∷ []) (l (omega arith)))
+    (rw (begins-at s (i + 2) (i + 3) (omega arith) tail [] (omega arith))
+    (three (between low high (byteAt s (i + 1))) (continues (byteAt s (i + 2))) _ _))
 inner-is (suc (suc (suc (suc zero)))) low high s i h l =
-    rw (begins-at s (i + 1) (i + 2) (omega arith) (range low high) (tail ∷ tail ∷ []) (l (omega arith)), begins-at s (i + 2) (i + 3) (omega arith) tail (tail ∷ []) (omega arith), begins-at s (i + 3) (i + 4) (omega arith) tail [] (omega arith)) (four (between low high (byteAt s (i + 1))) (continues (byteAt s (i + 2))) (continues (byteAt s (i + 3))) _ _)
+    rw (begins-at s (i + 1) (i + 2) (omega arith) (range low high) (tail ∷ tail ∷ []) (l (omega arith)))
+    (rw (begins-at s (i + 2) (i + 3) (omega arith) tail (tail ∷ []) (omega arith), begins-at s (i + 3) (i + 4) (omega arith) tail [] (omega arith))
+    (four (between low high (byteAt s (i + 1))) (continues (byteAt s (i + 2))) (continues (byteAt s (i + 3))) _ _))
 inner-is (suc (suc (suc (suc (suc n))))) low high s i h l = absurd (omega arith)
 
 module _ (s : List ℕ) (i : ℕ) where
@@ -78,15 +83,12 @@ module _ (s : List ℕ) (i : ℕ) where
       let bounds = lead-bounds (byteAt s i) in
       rw (lt-ltb i (length s) h) (inner-is (l .size) (l .low) (l .high) s i (bounds .0) (bounds .1))
 
-  pub step-end : length s ≤ i → stepAt s i ≡ Step.End
-  unfolding stepAt
-  step-end h = rw (le-ltb i (length s) h) refl
-
   cut : (m n : ℕ) → i < length s → n ≡ suc m → drop i s ≡ (byteAt s i ∷ take m (drop (i + 1) s)) ++ drop (i + n) s
   cut m n h e =
       let next : suc i ≡ i + 1 = omega arith in
       let past : i + 1 + m ≡ i + n = omega (arith, e) in
-      drop-cons s i 0 h ∙ ap (λ (r : List ℕ). byteAt s i ∷ r) (ap (λ (k : ℕ). drop k s) next ∙ sym (take-append-drop m (drop (i + 1) s)) ∙ ap (λ (r : List ℕ). take m (drop (i + 1) s) ++ r) (drop-drop m (i + 1) s ∙ ap (λ (k : ℕ). drop k s) past))
+      let others : drop (suc i) s ≡ take m (drop (i + 1) s) ++ drop (i + n) s = rw (next, ← past, ← drop-drop m (i + 1) s, take-append-drop) in
+      drop-cons s i 0 h ∙ ap (λ (r : List ℕ). byteAt s i ∷ r) others
 
   -- these bytes stand at i, and the next place is after them
   abbrev pub Stands : ℕ → List ℕ → Type 0
@@ -116,7 +118,7 @@ module _ (s : List ℕ) (i : ℕ) where
       let h = ltb-true i (length s) t in
       rw (step-is h)
       (split (complete (leadOf (byteAt s i)) s i) (λ u. rw u (sequence-here h u)) (λ u. rw u (refl, h))))
-      (λ t. rw (step-end (ltb-false i (length s) t)) (ltb-false i (length s) t))
+      (λ t. rw (← past-end s i (ltb-false i (length s) t)) (ltb-false i (length s) t))
 
   pub step-coded : (code : CharCode) (next : ℕ) → stepAt s i ≡ Step.Char code next → (q : List ℕ) × Stands next q × (code .0 ≡ codeAt s i (length q))
   step-coded code next e = rw e at step-means

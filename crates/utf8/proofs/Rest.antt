@@ -1,6 +1,6 @@
 -- The check of a whole text, by steps: its answer is that of the rest.
-use Prim.Native.Nat.{ℕ, zero, suc, _-_, _<_}
-use mathlib.Core.Path.{_≡_, refl, ap, _∙_}
+use Prim.Native.Nat.{ℕ, zero, suc, _-_, _<_, _≤_}
+use mathlib.Core.Path.{_≡_, refl, sym, ap, _∙_}
 use mathlib.Core.List.{List}
 use native.Mathlib.Omega.{arith}
 use lib.ListN.{length}
@@ -13,30 +13,40 @@ use Rattle.utf8.specs.declared.Step.{Step}
 use Rattle.utf8.proofs.Walk.{step-within}
 
 -- from byte i on the answer is this
-abbrev pub Answer : List ℕ → ℕ → Checked → Type 0
-Answer text i a = (f : ℕ) × (length text - i < f) × (a ≡ checked (decodeFrom f text i))
+pub record Answer (text : List ℕ) (i : ℕ) (a : Checked) : Type 0 where
+  pub fuel : ℕ
+  pub enough : length text - i < fuel
+  pub is : a ≡ checked (decodeFrom fuel text i)
 
 checked-cons : (c : Char) (d : Decoded) → checked (consChar c d) ≡ checked d
 checked-cons c (chars cs) = refl
 checked-cons c (refused r) = refl
 
-module _ (text : List ℕ) (i : ℕ) (a : Checked) where
-  pub answer-end : Answer text i a → stepAt text i ≡ Step.End → a ≡ Checked.Whole
+module _ (text : List ℕ) (i : ℕ) (a : Checked) (here : Step) (now : Answer text i a) (here-is : here ≡ stepAt text i) where
+  -- the answer is that of the step here, or of the steps after it
+  stepped : (x : Step) → here ≡ x → (f : ℕ) × (length text - i ≤ f) × (a ≡ checked (afterStep x i (λ next. decodeFrom f text next)))
   unfolding decodeFrom
-  answer-end (zero, h, e) s = absurd (omega arith)
-  answer-end (suc f, h, e) s = e ∙ ap (λ (x : Step). checked (afterStep x i (λ next. decodeFrom f text next))) s
+  stepped x e = by (now .fuel) (now .enough) (now .is)
+    where
+      by : (f : ℕ) → length text - i < f → a ≡ checked (decodeFrom f text i) → (f : ℕ) × (length text - i ≤ f) × (a ≡ checked (afterStep x i (λ next. decodeFrom f text next)))
+      by zero h d = absurd (omega arith)
+      by (suc f) h d = (f, omega arith, d ∙ ap (λ (y : Step). checked (afterStep y i (λ next. decodeFrom f text next))) (sym here-is ∙ e))
 
-  pub answer-bad : (r : Refusal) → Answer text i a → stepAt text i ≡ Step.Refused r → a ≡ Checked.Refused r
-  unfolding decodeFrom
-  answer-bad r (zero, h, e) s = absurd (omega arith)
-  answer-bad r (suc f, h, e) s = e ∙ ap (λ (x : Step). checked (afterStep x i (λ next. decodeFrom f text next))) s
+  pub answer-end : here ≡ Step.End → Checked.Whole ≡ a
+  answer-end e = sym (stepped Step.End e .2)
 
-  pub answer-char : (code : CharCode) (next : ℕ) → Answer text i a → stepAt text i ≡ Step.Char code next → Answer text next a
-  unfolding decodeFrom
-  answer-char code next (zero, h, e) s = absurd (omega arith)
-  answer-char code next (suc f, h, e) s =
-      (f, omega (arith, step-within text i code next s), e ∙ ap (λ (x : Step). checked (afterStep x i (λ next. decodeFrom f text next))) s ∙ checked-cons (record { byte = i; code = code .0 }) (decodeFrom f text next))
+  pub answer-bad : (r : Refusal) → here ≡ Step.Refused r → Checked.Refused r ≡ a
+  answer-bad r e = sym (stepped (Step.Refused r) e .2)
+
+  module _ (code : CharCode) (next : ℕ) (read : here ≡ Step.Char code next) where
+    pub answer-less : length text - next < length text - i
+    answer-less = omega (arith, step-within text i code next (sym here-is ∙ read))
+
+    pub answer-next : Answer text next a
+    answer-next =
+        let (f, h, e) = stepped (Step.Char code next) read in
+        record { fuel = f; enough = omega (arith, answer-less); is = e ∙ checked-cons (record { byte = i; code = code .0 }) (decodeFrom f text next) }
 
 pub answer-all : (text : List ℕ) → Answer text 0 (checked (decoded text))
 unfolding decoded
-answer-all text = (suc (length text), omega arith, refl)
+answer-all text = record { fuel = suc (length text); enough = omega arith; is = refl }
