@@ -1,26 +1,36 @@
--- The laws of the walk over the directory: what is left to do from an entry on, after that entry.
-use mathlib.Core.Path.{_≡_, refl, sym, _∙_}
+-- The walk over the directory: from an entry on, what is left to do gives what the whole walk gives.
+use mathlib.Core.Path.{_≡_, _∙_}
 use mathlib.Core.List.{List}
 use Prim.Native.Nat.{ℕ, suc, _+_, _-_, _≤_, _<_}
+use native.Mathlib.Nat.{sub-zero}
 use native.Mathlib.Omega.{arith}
 use Rattle.reads.specs.Said.{refusal}
 use Rattle.load.specs.declared.Gathered.{Gathered}
 use Rattle.load.specs.declared.Entered.{Entered}
 use Rattle.load.specs.declared.Loaded.{Loaded}
-use Rattle.load.specs.Gather.{finished}
+use Rattle.load.specs.Gather.{nothing, finished}
 use Rattle.load.specs.Load.{entryAt, afterEntry, entriesFrom}
 
-module _ (s : List ℕ) (count k : ℕ) (g : Gathered) where
-  entries-step : k < count → entriesFrom s (count - k) k g ≡ afterEntry (entryAt s k g) k (λ h. entriesFrom s (count - (k + 1)) (k + 1) h)
+-- before entry number k, with what those before it gave
+pub record Walking (s : List ℕ) (count k : ℕ) (g : Gathered) : Type 0 where
+  pub reached : k ≤ count
+  pub rest : entriesFrom s (count - k) k g ≡ entriesFrom s count 0 nothing
+
+pub walk-begins : (s : List ℕ) (count : ℕ) (g : Gathered) → g ≡ nothing → Walking s count 0 g
+walk-begins s count g e = record { reached = omega arith; rest = rw (e, sub-zero) }
+
+module _ (s : List ℕ) (count k : ℕ) (g : Gathered) (now : Walking s count k g) where
+  pub walk-ends : (r : Loaded) → count ≤ k → r ≡ finished g → r ≡ entriesFrom s count 0 nothing
   unfolding entriesFrom
-  entries-step l = let e : count - k ≡ suc (count - (k + 1)) = omega arith in rw e refl
+  walk-ends r l is = let e : count - k ≡ 0 = omega arith in is ∙ (rw e at (now .rest))
 
-  pub entries-next : (h : Gathered) → k < count → entryAt s k g ≡ Entered.Next h → entriesFrom s (count - (k + 1)) (k + 1) h ≡ entriesFrom s (count - k) k g
-  entries-next h l e = sym (entries-step l ∙ rw e refl)
+  module _ (entry : Entered) (more : k < count) (entry-is : entry ≡ entryAt s k g) where
+    step : afterEntry entry k (λ h. entriesFrom s (count - (k + 1)) (k + 1) h) ≡ entriesFrom s count 0 nothing
+    unfolding entriesFrom
+    step = let e : count - k ≡ suc (count - (k + 1)) = omega arith in rw entry-is (rw e at (now .rest))
 
-  pub entries-stop : (n : ℕ) → k < count → entryAt s k g ≡ Entered.Refused n → Loaded.Refused (refusal n k) ≡ entriesFrom s (count - k) k g
-  entries-stop n l e = sym (entries-step l ∙ rw e refl)
+    pub walk-goes-on : (h : Gathered) → entry ≡ Entered.Next h → Walking s count (k + 1) h
+    walk-goes-on h e = record { reached = omega arith; rest = rw e at step }
 
-  pub entries-end : count ≤ k → finished g ≡ entriesFrom s (count - k) k g
-  unfolding entriesFrom
-  entries-end l = let e : count - k ≡ 0 = omega arith in rw e refl
+    pub walk-stops : (n : ℕ) → entry ≡ Entered.Refused n → Loaded.Refused (refusal n k) ≡ entriesFrom s count 0 nothing
+    walk-stops n e = rw e at step

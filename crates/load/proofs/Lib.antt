@@ -1,3 +1,4 @@
+mod Loading
 pub mod Entries
 pub mod LastServes
 mod TablesFit

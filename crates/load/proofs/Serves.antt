@@ -30,13 +30,14 @@ abbrev EnteredFits : ℕ → Entered → Type 0
 EnteredFits len (Entered.Next g) = Fitting len g
 EnteredFits len (Entered.Refused n) = Unit {0}
 
+-- the table that was read fits, and the others are as before
 added-fits : (len : ℕ) (g : Gathered) → Fitting len g → (read : TableRead) → ReadFits len read → EnteredFits len (added g read)
-added-fits len g f (TableRead.Properties t) h = record { props = λ e. h; metrics = f .metrics; bitmaps = f .bitmaps; codes = f .codes; names = f .names }
-added-fits len g f (TableRead.Metrics t) h = record { props = f .props; metrics = λ e. h; bitmaps = f .bitmaps; codes = f .codes; names = f .names }
-added-fits len g f (TableRead.Bitmaps t) h = record { props = f .props; metrics = f .metrics; bitmaps = λ e. h; codes = f .codes; names = f .names }
-added-fits len g f (TableRead.Codes t) h = record { props = f .props; metrics = f .metrics; bitmaps = f .bitmaps; codes = λ e. h; names = f .names }
-added-fits len g f (TableRead.Names t) h = record { props = f .props; metrics = f .metrics; bitmaps = f .bitmaps; codes = f .codes; names = λ e. h }
-added-fits len g f (TableRead.Accelerators t) h = record { props = f .props; metrics = f .metrics; bitmaps = f .bitmaps; codes = f .codes; names = f .names }
+added-fits len g f (TableRead.Properties t) h = search
+added-fits len g f (TableRead.Metrics t) h = search
+added-fits len g f (TableRead.Bitmaps t) h = search
+added-fits len g f (TableRead.Codes t) h = search
+added-fits len g f (TableRead.Names t) h = search
+added-fits len g f (TableRead.Accelerators t) h = search
 added-fits len g f TableRead.Other h = f
 added-fits len g f (TableRead.Refused n) h = tt
 

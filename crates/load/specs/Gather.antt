@@ -1,6 +1,6 @@
 -- What the directory has given so far, and what a table adds to it. From document 01: "A repeated type is checked each time and
 -- the last one serves; types 2 and 256 both give the accelerators. Six kinds must be present."
-use mathlib.Core.Bool.{Bool, true, false, cond, _&&_}
+use mathlib.Core.Bool.{Bool, false, cond, _&&_}
 use lib.IntN.{pos}
 use Rattle.reads.specs.Said.{refusal}
 use Rattle.tables.specs.declared.MetricsUnpacked.{MetricsUnpacked}
@@ -10,6 +10,8 @@ use Rattle.load.specs.declared.Kinds.{Kinds}
 use Rattle.load.specs.declared.Gathered.{Gathered}
 use Rattle.load.specs.declared.Entered.{Entered}
 use Rattle.load.specs.declared.Loaded.{Loaded}
+use Rattle.load.specs.Parts.{setProps, setAccel, setMetrics, setBitmaps, setCodes, setNames}
+use Rattle.load.specs.Parts.{hasProps, hasAccel, hasMetrics, hasBitmaps, hasCodes, hasNames}
 
 -- before the first entry: no kind, and numbers that nothing reads
 abbrev pub noMetrics : MetricsUnpacked
@@ -50,38 +52,14 @@ nothing = record {
 abbrev pub given : Record → Kinds → Entered
 given tables kinds = Entered.Next (record { tables = tables; kinds = kinds })
 
--- a table that was read takes the place of an earlier one of its kind; a table of another type changes nothing
+-- "the last one serves": a table that was read takes the place of an earlier one of its kind; a table of another type changes nothing
 abbrev pub added : Gathered → TableRead → Entered
-added g (TableRead.Properties t) =
-    let r = g .tables in
-    let k = g .kinds in
-    given (record { props = t; accel = r .accel; metrics = r .metrics; bitmaps = r .bitmaps; codes = r .codes; names = r .names })
-    (record { props = true; accel = k .accel; metrics = k .metrics; bitmaps = k .bitmaps; codes = k .codes; names = k .names })
-added g (TableRead.Accelerators t) =
-    let r = g .tables in
-    let k = g .kinds in
-    given (record { props = r .props; accel = t; metrics = r .metrics; bitmaps = r .bitmaps; codes = r .codes; names = r .names })
-    (record { props = k .props; accel = true; metrics = k .metrics; bitmaps = k .bitmaps; codes = k .codes; names = k .names })
-added g (TableRead.Metrics t) =
-    let r = g .tables in
-    let k = g .kinds in
-    given (record { props = r .props; accel = r .accel; metrics = t; bitmaps = r .bitmaps; codes = r .codes; names = r .names })
-    (record { props = k .props; accel = k .accel; metrics = true; bitmaps = k .bitmaps; codes = k .codes; names = k .names })
-added g (TableRead.Bitmaps t) =
-    let r = g .tables in
-    let k = g .kinds in
-    given (record { props = r .props; accel = r .accel; metrics = r .metrics; bitmaps = t; codes = r .codes; names = r .names })
-    (record { props = k .props; accel = k .accel; metrics = k .metrics; bitmaps = true; codes = k .codes; names = k .names })
-added g (TableRead.Codes t) =
-    let r = g .tables in
-    let k = g .kinds in
-    given (record { props = r .props; accel = r .accel; metrics = r .metrics; bitmaps = r .bitmaps; codes = t; names = r .names })
-    (record { props = k .props; accel = k .accel; metrics = k .metrics; bitmaps = k .bitmaps; codes = true; names = k .names })
-added g (TableRead.Names t) =
-    let r = g .tables in
-    let k = g .kinds in
-    given (record { props = r .props; accel = r .accel; metrics = r .metrics; bitmaps = r .bitmaps; codes = r .codes; names = t })
-    (record { props = k .props; accel = k .accel; metrics = k .metrics; bitmaps = k .bitmaps; codes = k .codes; names = true })
+added g (TableRead.Properties t) = given (setProps t (g .tables)) (hasProps (g .kinds))
+added g (TableRead.Accelerators t) = given (setAccel t (g .tables)) (hasAccel (g .kinds))
+added g (TableRead.Metrics t) = given (setMetrics t (g .tables)) (hasMetrics (g .kinds))
+added g (TableRead.Bitmaps t) = given (setBitmaps t (g .tables)) (hasBitmaps (g .kinds))
+added g (TableRead.Codes t) = given (setCodes t (g .tables)) (hasCodes (g .kinds))
+added g (TableRead.Names t) = given (setNames t (g .tables)) (hasNames (g .kinds))
 added g TableRead.Other = Entered.Next g
 added g (TableRead.Refused n) = Entered.Refused n
 

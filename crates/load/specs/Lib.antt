@@ -1,2 +1,3 @@
+pub mod Parts
 pub mod Gather
 pub mod Load

@@ -1,8 +1,12 @@
 -- The record's own test. From document 01, refusal 6 "in calls, a record with a region outside the
 -- bytes given, a code minimum above its maximum, a code region without room for all its entries, or a row pad other than 1, 2, 4, 8".
 use Prim.Native.Nat.{ℕ, _+_, _*_}
-use mathlib.Core.Bool.{Bool, _&&_, _||_}
+use mathlib.Core.Bool.{Bool, cond, _&&_, _||_}
+use mathlib.Core.List.{List}
+use lib.ListN.{length}
 use lib.Dec.{leb, eqb}
+use Rattle.reads.specs.Said.{refusal}
+use Rattle.reads.specs.declared.Refusal.{Refusal}
 use Rattle.tables.specs.Codes.{entryCount}
 use Rattle.tables.specs.Metrics.{metricBytes}
 use Rattle.tables.specs.declared.PropertiesData.{PropertiesData}
@@ -11,6 +15,7 @@ use Rattle.tables.specs.declared.BitmapData.{BitmapData}
 use Rattle.tables.specs.declared.EncodingData.{EncodingData}
 use Rattle.tables.specs.declared.GlyphNameData.{GlyphNameData}
 use Rattle.tables.specs.declared.Record.{Record}
+use Rattle.tables.specs.declared.Permit.{Permit}
 
 -- a region of `size` bytes from `start` on lies inside `len` bytes
 abbrev pub inside : ℕ → ℕ → ℕ → Bool
@@ -44,3 +49,23 @@ namesFit len n = inside len (n .offsets) (4 * n .count) && inside len (n .string
 unfoldable pub recordFits : ℕ → Record → Bool
 recordFits len r =
     propsFit len (r .props) && metricsFit len (r .metrics) && bitmapsFit len (r .bitmaps) && codesFit len (r .codes) && namesFit len (r .names)
+
+-- what a call answers that takes a record with the bytes `s`: 6, or `answer`; `refused` makes a refusal an answer of the call
+abbrev pub tested : {A : Type 0} → (Refusal → A) → List ℕ → Record → A → A
+tested refused s rec answer = cond (recordFits (length s) rec) answer (refused (refusal 6 0))
+
+-- the same of a call whose arguments have limits: 6, 15 "an argument other than the text outside its limits", or `answer`
+abbrev pub guarded : {A : Type 0} → (Refusal → A) → List ℕ → Record → Bool → A → A
+guarded refused s rec within answer = tested refused s rec (cond within answer (refused (refusal 15 0)))
+
+-- what these two tests say before there is an answer, by what they found: 6, 15, or go on
+unfoldable pub ladder : Bool → Bool → Permit
+ladder fits within = cond fits (cond within Permit.Given (Permit.Refused (refusal 15 0))) (Permit.Refused (refusal 6 0))
+
+abbrev pub guard : List ℕ → Record → Bool → Permit
+guard s rec within = ladder (recordFits (length s) rec) within
+
+-- what a call answers after such tests
+abbrev pub permitted : {A : Type 0} → (Refusal → A) → Permit → A → A
+permitted refused Permit.Given answer = answer
+permitted refused (Permit.Refused r) answer = refused r

@@ -1,15 +1,17 @@
-// The record's own test, which every call that takes a record makes first.
+// The record's own test, which every call that takes a record makes first, and the limits of arguments after it.
 use crate::BitmapData;
 use crate::EncodingData;
 use crate::GlyphNameData;
 use crate::MetricsData;
+use crate::Permit;
 use crate::PropertiesData;
 use crate::Record;
 use crate::code_table::entry_count;
 use crate::metrics_table::metric_bytes;
+use reads::Refusal;
 use reads::lies_in;
 ghost use mathlib.Core.Path.{_≡_};
-ghost use Rattle.tables.specs.Fits.{inside, padFits, propsFit, metricsFit, bitmapsFit, codesFit, namesFit, recordFits};
+ghost use Rattle.tables.specs.Fits.{inside, padFits, propsFit, metricsFit, bitmapsFit, codesFit, namesFit, recordFits, ladder};
 
 // Whether `size` bytes from `start` on lie inside `len` bytes.
 pub fn is_inside(len: usize, start: usize, size: usize) -> bool
@@ -72,4 +74,24 @@ pub fn record_fits(len: usize, rec: Record) -> bool
         & bitmaps_fit(len, rec.bitmaps)
         & codes_fit(len, rec.codes)
         & names_fit(len, rec.names)
+}
+
+// What the two tests before a drawing say, by what they found: 6 where the record does not fit, then 15 where the
+// arguments are not within their limits.
+pub fn guard(fits: bool, within: bool) -> Permit
+    ensures { λ r. ⌜ r ≡ ladder fits within ⌝ }
+{
+    if !fits {
+        return Permit::Refused(Refusal {
+            number: 6,
+            place: 0,
+        });
+    }
+    if !within {
+        return Permit::Refused(Refusal {
+            number: 15,
+            place: 0,
+        });
+    }
+    Permit::Given
 }

@@ -18,6 +18,7 @@ mod property_table;
 pub use accelerator_table::accelerators_at;
 pub use bitmap_table::bitmaps_at;
 pub use code_table::codes_at;
+pub use fits::guard;
 pub use fits::is_inside;
 pub use fits::record_fits;
 pub use measures::narrow_at;
@@ -26,6 +27,7 @@ pub use metrics_table::metric_bytes;
 pub use metrics_table::metrics_at;
 pub use name_table::names_at;
 pub use property_table::properties_at;
+use reads::Refusal;
 
 // Table 1. `count` property records of 9 bytes from `records` on; string data of `size` bytes from
 // `strings` on.
@@ -125,6 +127,12 @@ pub struct Record {
     pub bitmaps: BitmapData,
     pub codes: EncodingData,
     pub names: GlyphNameData,
+}
+
+// What the tests before a drawing say: go on, or a refusal.
+pub enum Permit {
+    Given,
+    Refused(Refusal),
 }
 
 // What reading a table from its bytes gives: the table, or the refusal's number, 6 or 7. `Other` is
