@@ -3,11 +3,10 @@
 use Prim.Native.Nat.{ℕ, _+_, _*_}
 use mathlib.Core.Bool.{Bool, true, false, cond}
 use mathlib.Core.List.{List}
-use lib.ListN.{length}
 use lib.Dec.{leb}
 use Rattle.reads.specs.Said.{Said, refusal, says, refuses}
 use Rattle.tables.specs.Metrics.{wideAt, narrowAt, metricBytes}
-use Rattle.tables.specs.Fits.{recordFits}
+use Rattle.tables.specs.Fits.{tested}
 use Rattle.tables.specs.Values.{metricsValues, acceleratorValues}
 use Rattle.tables.specs.declared.MetricsData.{MetricsData}
 use Rattle.tables.specs.declared.MetricsUnpacked.{MetricsUnpacked}
@@ -21,20 +20,20 @@ measuredAt true big s at = narrowAt s at
 measuredAt false big s at = wideAt big s at
 
 -- glyph g's record
-abbrev pub metricsAt : List ℕ → MetricsData → ℕ → MetricsUnpacked
-metricsAt s m g = measuredAt (m .compressed) (m .big) s (m .records + metricBytes (m .compressed) * g)
+abbrev pub glyphMetrics : List ℕ → MetricsData → ℕ → MetricsUnpacked
+glyphMetrics s m g = measuredAt (m .compressed) (m .big) s (m .records + metricBytes (m .compressed) * g)
 
 -- glyph g's metrics, or 10
 unfoldable pub metricsOf : List ℕ → MetricsData → ℕ → Measured
-metricsOf s m g = cond (leb (m .count) g) (Measured.Refused (refusal 10 0)) (Measured.Metrics (metricsAt s m g))
+metricsOf s m g = cond (leb (m .count) g) (Measured.Refused (refusal 10 0)) (Measured.Metrics (glyphMetrics s m g))
 
 -- `get_metrics`: 6, 10
 unfoldable pub getMetrics : List ℕ → Record → ℕ → Measured
-getMetrics s rec g = cond (recordFits (length s) rec) (metricsOf s (rec .metrics) g) (Measured.Refused (refusal 6 0))
+getMetrics s rec g = tested Measured.Refused s rec (metricsOf s (rec .metrics) g)
 
 -- `get_accelerators`: 6
 unfoldable pub getAccelerators : List ℕ → Record → Accelerated
-getAccelerators s rec = cond (recordFits (length s) rec) (Accelerated.Accelerators (rec .accel)) (Accelerated.Refused (refusal 6 0))
+getAccelerators s rec = tested Accelerated.Refused s rec (Accelerated.Accelerators (rec .accel))
 
 abbrev pub saidMeasured : Measured → Said
 saidMeasured (Measured.Metrics m) = says (metricsValues m)

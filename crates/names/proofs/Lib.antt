@@ -1,5 +1,6 @@
 pub mod Zeros
+pub mod Naming
 pub mod Parts
 pub mod EndsAtZero
 pub mod OffsetInside
-pub mod Numbered
+pub mod Refusals

@@ -3,12 +3,11 @@
 use Prim.Native.Nat.{ℕ, _+_, _*_}
 use mathlib.Core.Bool.{cond}
 use mathlib.Core.List.{List, [], _∷_}
-use lib.ListN.{length}
 use lib.Dec.{leb}
 use lib.IntN.{pos}
 use Rattle.reads.specs.Num.{u32At}
 use Rattle.reads.specs.Said.{Said, refusal, says, refuses}
-use Rattle.tables.specs.Fits.{recordFits}
+use Rattle.tables.specs.Fits.{tested}
 use Rattle.tables.specs.declared.GlyphNameData.{GlyphNameData}
 use Rattle.tables.specs.declared.Record.{Record}
 use Rattle.names.specs.Strings.{stringAt, partOf}
@@ -22,7 +21,7 @@ nameOf s n g =
 
 -- `get_name`: 6, 17, 18
 unfoldable pub getName : List ℕ → Record → ℕ → Named
-getName s rec g = cond (recordFits (length s) rec) (nameOf s (rec .names) g) (Named.Refused (refusal 6 0))
+getName s rec g = tested Named.Refused s rec (nameOf s (rec .names) g)
 
 -- the name itself, a part of the font's own bytes; empty on a refusal
 abbrev pub nameBytes : List ℕ → Named → List ℕ

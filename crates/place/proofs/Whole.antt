@@ -1,5 +1,5 @@
 -- The laws of signed 16-bit numbers in whole numbers: sums fit 32 bits, and the tests against 0.
-use mathlib.Core.Path.{_≡_, refl}
+use mathlib.Core.Path.{_≡_, refl, _∙_}
 use mathlib.Core.Bool.{true}
 use Prim.Native.Nat.{ℕ, zero, suc, _+_, _-_, _≤_}
 use native.Mathlib.Omega.{arith}
@@ -7,11 +7,19 @@ use lib.Dec.{T, ltb}
 use lib.IntN.{ℤ, pos, negsuc, subℕ, natAbs, _+ℤ_, _-ℤ_}
 use lib.Signed.{mag, nonNeg, leZ}
 use mir.Syntax.{w16, w32}
-use mir.Val.{SFits}
+use mir.Val.{SFits, toZ, ofZ}
+use mir.Facts.{toZ-ofZ, sfits-widen}
 use borrow.Author.Tests.{le-leb, leb-true, le-ltb}
 use Rattle.reads.proofs.Signed.{mag-cond}
 use Rattle.reads.proofs.Tests.{never, both}
 use Rattle.place.specs.Bounds.{inRange}
+
+-- a number as 16 bits hold it, and as 32
+abbrev pub short : ℤ → ℤ
+short z = toZ w16 (ofZ w16 z)
+
+abbrev pub long : ℤ → ℤ
+long z = toZ w32 (ofZ w32 z)
 
 mag-sub : (a b h : ℕ) → a ≤ h → b ≤ h → mag (subℕ a b) ≤ h
 mag-sub a b h p q = mag-cond (ltb a b) (negsuc (b - suc a)) (pos (a - b)) h (omega arith) (omega arith)
@@ -24,6 +32,19 @@ mag-add (negsuc a) (negsuc b) h p q = omega arith
 
 pub sum-fits : (a b : ℤ) → SFits w16 a → SFits w16 b → SFits w32 (a +ℤ b)
 sum-fits a b fa fb = record { sfits = omega (arith, mag-add a b 32768 (omega arith) (omega arith)) }
+
+pub widens : (z : ℤ) → SFits w16 z → SFits w32 (short z)
+widens z f = rw (toZ-ofZ {w = w16} {z = z} f) (sfits-widen tt f)
+
+widened : (z : ℤ) → SFits w16 z → long (short z) ≡ z
+widened z f = toZ-ofZ (widens z f) ∙ toZ-ofZ f
+
+module _ (a b : ℤ) (fa : SFits w16 a) (fb : SFits w16 b) where
+  pub sum-widens : SFits w32 (long (short a) +ℤ long (short b))
+  sum-widens = rw (widened a fa, widened b fb) (sum-fits a b fa fb)
+
+  pub sum-is : long (long (short a) +ℤ long (short b)) ≡ a +ℤ b
+  sum-is = toZ-ofZ sum-widens ∙ rw (widened a fa, widened b fb)
 
 pub from-zero : (z : ℤ) → leZ (pos 0) z ≡ nonNeg z
 from-zero (pos n) = le-leb 0 n (omega arith)

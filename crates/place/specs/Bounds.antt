@@ -3,11 +3,10 @@
 use Prim.Native.Nat.{ℕ}
 use mathlib.Core.Bool.{Bool, cond, _&&_}
 use mathlib.Core.List.{List, [], _∷_}
-use lib.ListN.{length}
 use lib.IntN.{ℤ, pos, natAbs, _+ℤ_}
 use lib.Signed.{nonNeg, leZ}
 use Rattle.reads.specs.Said.{Said, refusal, says, refuses}
-use Rattle.tables.specs.Fits.{recordFits}
+use Rattle.tables.specs.Fits.{tested}
 use Rattle.tables.specs.declared.MetricsUnpacked.{MetricsUnpacked}
 use Rattle.tables.specs.declared.Record.{Record}
 use Rattle.place.specs.declared.Extent.{Extent}
@@ -39,7 +38,7 @@ boundsSized m = cond (boundsHold m) (Sized.Dimensions (dimensionsOf m)) (Sized.R
 
 -- `dimensions`: 6, 11
 unfoldable pub dimensions : List ℕ → Record → Sized
-dimensions s rec = cond (recordFits (length s) rec) (boundsSized (boundsOf rec)) (Sized.Refused (refusal 6 0))
+dimensions s rec = tested Sized.Refused s rec (boundsSized (boundsOf rec))
 
 abbrev pub saidSized : Sized → Said
 saidSized (Sized.Dimensions d) = says (pos (d .height) ∷ pos (d .width) ∷ [])

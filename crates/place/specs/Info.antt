@@ -4,12 +4,11 @@
 use Prim.Native.Nat.{ℕ}
 use mathlib.Core.Bool.{Bool, cond, _&&_}
 use mathlib.Core.List.{List, [], _∷_}
-use lib.ListN.{length}
 use lib.IntN.{ℤ, pos, natAbs, _-ℤ_}
 use lib.Signed.{nonNeg, leZ}
 use Rattle.reads.specs.Said.{Said, refusal, says, refuses}
 use Rattle.reads.specs.declared.GlyphIndex.{GlyphIndex}
-use Rattle.tables.specs.Fits.{recordFits}
+use Rattle.tables.specs.Fits.{tested}
 use Rattle.tables.specs.declared.MetricsUnpacked.{MetricsUnpacked}
 use Rattle.tables.specs.declared.Record.{Record}
 use Rattle.lookup.specs.Lookup.{glyphOf}
@@ -57,7 +56,7 @@ prepared s rec code = withGlyph (glyphOf s (rec .codes) code) (λ g. infoOf s re
 
 -- `prep_char`: 6, 9, 10, 11
 unfoldable pub prepChar : List ℕ → Record → ℕ → Prepared
-prepChar s rec code = cond (recordFits (length s) rec) (prepared s rec code) (Prepared.Refused (refusal 6 0))
+prepChar s rec code = tested Prepared.Refused s rec (prepared s rec code)
 
 abbrev pub infoValues : GlyphInfo → List ℤ
 infoValues i = pos (i .glyph .0) ∷ pos (i .width) ∷ pos (i .height) ∷ pos (i .«pad_top») ∷ pos (i .«pad_left») ∷ []

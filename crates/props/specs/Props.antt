@@ -3,12 +3,11 @@
 use Prim.Native.Nat.{ℕ, _+_, _*_}
 use mathlib.Core.Bool.{cond}
 use mathlib.Core.List.{List, [], _∷_}
-use lib.ListN.{length}
 use lib.Dec.{leb, eqb}
 use lib.IntN.{ℤ, pos}
 use Rattle.reads.specs.Num.{byteAt, u32At}
 use Rattle.reads.specs.Said.{Said, refusal, says, refuses}
-use Rattle.tables.specs.Fits.{recordFits}
+use Rattle.tables.specs.Fits.{tested}
 use Rattle.tables.specs.declared.PropertiesData.{PropertiesData}
 use Rattle.tables.specs.declared.Record.{Record}
 use Rattle.names.specs.Strings.{stringAt}
@@ -41,7 +40,7 @@ propOf s p i =
 
 -- `prop_at`: 6, 17, 18
 unfoldable pub propAt : List ℕ → Record → ℕ → PropFound
-propAt s rec i = cond (recordFits (length s) rec) (propOf s (rec .props) i) (PropFound.Refused (refusal 6 0))
+propAt s rec i = tested PropFound.Refused s rec (propOf s (rec .props) i)
 
 -- 0 and the number, or 1 and the string's start and length
 abbrev pub valueValues : PropValue → List ℤ

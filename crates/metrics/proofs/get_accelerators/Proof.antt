@@ -1,21 +1,22 @@
 use Rattle.metrics.specs.Measure.{getAccelerators}
+use Rattle.metrics.specs.declared.Accelerated.{Accelerated}
 use borrow.Author.Needs.{needs}
+use Rattle.tables.proofs.TestedRecord.{tested-6, tested-answers}
 use Rattle.metrics.proofs.get_accelerators.Statement.{statement}
 use Rattle.metrics.proofs.get_accelerators.Tie as tie
 
--- src/lib.rt:130:8
-record-fits-requires : tie.Need-record-fits-requires
-record-fits-requires c κs = search needs
-
--- src/lib.rt:127:1
 returns : tie.Need-returns
 unfolding getAccelerators
-returns c = rw (← c .before .before .record-fits .ensures, c .before .if1 .taken)
+returns c = search tested-answers
 
--- src/lib.rt:127:1
 returns-2 : tie.Need-returns-2
 unfolding getAccelerators
-returns-2 c = rw (← c .before .record-fits .ensures, c .if1 .left)
+returns-2 c = search (tested-6 Accelerated.Refused)
 
 pub get-accelerators-spec : {M : Type 1} → statement M
-get-accelerators-spec = tie.close (tie.spec record-fits-requires returns returns-2)
+get-accelerators-spec =
+    tie.close
+    (tie.spec
+    (λ c κs. search needs)  -- record-fits-requires
+    returns
+    returns-2)

@@ -1,25 +1,23 @@
 use Rattle.metrics.specs.Measure.{getMetrics}
+use Rattle.metrics.specs.declared.Measured.{Measured}
 use borrow.Author.Needs.{needs}
+use Rattle.tables.proofs.TestedRecord.{tested-6, tested-answers}
 use Rattle.metrics.proofs.get_metrics.Statement.{statement}
 use Rattle.metrics.proofs.get_metrics.Tie as tie
 
--- src/lib.rt:114:8
-record-fits-requires : tie.Need-record-fits-requires
-record-fits-requires c κs = search needs
-
--- src/lib.rt:116:9
-metrics-in-requires : tie.Need-metrics-in-requires
-metrics-in-requires c κs = search needs
-
--- src/lib.rt:111:1
 returns : tie.Need-returns
 unfolding getMetrics
-returns c = rw (← c .before .before .before .record-fits .ensures, c .before .before .if1 .taken, ← c .metrics-in .ensures)
+returns c = search tested-answers
 
--- src/lib.rt:111:1
 returns-2 : tie.Need-returns-2
 unfolding getMetrics
-returns-2 c = rw (← c .before .record-fits .ensures, c .if1 .left)
+returns-2 c = search (tested-6 Measured.Refused)
 
 pub get-metrics-spec : {M : Type 1} → statement M
-get-metrics-spec = tie.close (tie.spec record-fits-requires metrics-in-requires returns returns-2)
+get-metrics-spec =
+    tie.close
+    (tie.spec
+    (λ c κs. search needs)  -- record-fits-requires
+    (λ c κs. search needs)  -- metrics-in-requires
+    returns
+    returns-2)

@@ -1,103 +1,79 @@
-use Prim.Native.Nat.{_+_, _*_}
-use native.Mathlib.Nat.{add-zero, zero-lt-suc}
+use Prim.Native.Nat.{ℕ, _+_, _*_, _≤_, _<_, min}
+use mathlib.Core.Path.{_≡_, _∙_}
+use mathlib.Core.List.{List}
+use native.Mathlib.Nat.{add-zero}
+use native.Mathlib.Omega.{arith}
+use lib.ListN.{length}
 use borrow.Author.Tests.{le-leb, lt-leb, eq-eqb, ne-eqb}
-use Rattle.reads.proofs.Past.{byte-reach, number-reach}
-use Rattle.props.specs.Props.{propOf}
 use borrow.Author.Needs.{needs}
+use Rattle.reads.specs.Num.{byteAt, u32At}
+use Rattle.reads.specs.Said.{refusal}
+use Rattle.reads.specs.declared.Refusal.{Refusal}
+use Rattle.reads.proofs.Past.{byte-reach, number-reach}
+use Rattle.tables.specs.declared.PropertiesData.{PropertiesData}
+use Rattle.names.specs.declared.Span.{Span}
+use Rattle.names.specs.declared.Named.{Named}
+use Rattle.props.specs.Props.{property, propString, propOf}
+use Rattle.props.specs.declared.PropFound.{PropFound}
+use Rattle.props.specs.declared.PropValue.{PropValue}
 use Rattle.props.proofs.prop_of.Statement.{statement}
 use Rattle.props.proofs.prop_of.Tie as tie
 
--- src/lib.rt:45:9
-returns : tie.Need-returns
+-- what each return answers, by the steps that the code made before it
+
+beyond : (s : List ℕ) (p : PropertiesData) (i : ℕ) → p .count ≤ i → PropFound.Refused (refusal 17 0) ≡ propOf s p i
 unfolding propOf
-returns c =
-    rw (le-leb _ _ (c .if1 .taken))
+beyond s p i h = rw (le-leb _ _ h)
 
--- src/lib.rt:50:40
-mul-reach : tie.Need-mul-reach
-mul-reach c = search needs
+module _ (s : List ℕ) (p : PropertiesData) (i at from : ℕ) (named : Named) (below : i < p .count)
+    (reached : at ≡ min (p .records + 9 * i) (length s)) (from-is : from ≡ u32At (p .big) s (at + 0)) (named-is : named ≡ propString s p from) where
+  abbrev first : ℕ
+  first = p .records + 9 * i
 
--- src/lib.rt:50:9
-reach-requires : tie.Need-reach-requires
-reach-requires c κs = search needs
+  from-first : from ≡ u32At (p .big) s first
+  from-first = from-is ∙ rw (reached, number-reach s first 0 (p .big) 4 (omega arith), add-zero first)
 
--- src/lib.rt:51:9
-u32-at-requires : tie.Need-u32-at-requires
-u32-at-requires c κs = search needs
+  nameless : (r : Refusal) → named ≡ Named.Refused r → PropFound.Refused r ≡ propOf s p i
+  unfolding propOf
+  nameless r e = rw (lt-leb _ _ below, ← from-first, ← named-is, e)
 
--- src/lib.rt:52:35
-u32-at-requires-2 : tie.Need-u32-at-requires-2
-u32-at-requires-2 c κs = search needs
+  module _ (value flag : ℕ) (name : Span) (value-is : value ≡ u32At (p .big) s (at + 5)) (flag-is : flag ≡ byteAt s (at + 4)) (got : named ≡ Named.Name name) where
+    value-first : value ≡ u32At (p .big) s (first + 5)
+    value-first = value-is ∙ rw (reached, number-reach s first 5 (p .big) 4 (omega arith))
 
--- src/lib.rt:52:9
-prop-string-requires : tie.Need-prop-string-requires
-prop-string-requires c κs = search needs
+    flag-first : flag ≡ byteAt s (first + 4)
+    flag-first = flag-is ∙ rw (reached, byte-reach s first 4)
 
--- src/lib.rt:54:21
-enum-known-named : tie.Need-enum-known-named
-enum-known-named c = search needs
+    number : flag ≡ 0 → property name (PropValue.Number value) ≡ propOf s p i
+    unfolding propOf
+    number e = rw (lt-leb _ _ below, ← from-first, ← value-first, ← flag-first, ← named-is, got, eq-eqb _ _ e)
 
--- src/lib.rt:55:16
-byte-at-requires : tie.Need-byte-at-requires
-byte-at-requires c κs = search needs
+    module _ (text : Named) (e : flag ≡ 0 → ⊥) (text-is : text ≡ propString s p value) where
+      string : (span : Span) → text ≡ Named.Name span → property name (PropValue.String span) ≡ propOf s p i
+      unfolding propOf
+      string span h = rw (lt-leb _ _ below, ← from-first, ← value-first, ← flag-first, ← named-is, got, ne-eqb _ _ e, ← text-is, h)
 
--- src/lib.rt:56:17
-returns-2 : tie.Need-returns-2
-unfolding propOf
-returns-2 c =
-    rw (lt-leb _ _ (c .before .before .before .before .before .before .before .before .before .if1 .left), ← (rw (c .before .before .before .before .before .before .before .before .reach .ensures, number-reach (c .before .before .before .before .before .before .before .before .before .before .before .before .args .s .now) (c .before .before .before .before .before .before .before .before .before .before .before .before .args .p .records + 9 * c .before .before .before .before .before .before .before .before .before .before .before .before .args .i) 0 (c .before .before .before .before .before .before .before .before .before .before .before .before .args .p .big) 4 (zero-lt-suc 3), add-zero (c .before .before .before .before .before .before .before .before .before .before .before .before .args .p .records + 9 * c .before .before .before .before .before .before .before .before .before .before .before .before .args .i)) at (c .before .before .before .before .before .before .u32-at2 .ensures)), ← (rw (c .before .before .before .before .before .before .before .before .reach .ensures, number-reach (c .before .before .before .before .before .before .before .before .before .before .before .before .args .s .now) (c .before .before .before .before .before .before .before .before .before .before .before .before .args .p .records + 9 * c .before .before .before .before .before .before .before .before .before .before .before .before .args .i) 5 (c .before .before .before .before .before .before .before .before .before .before .before .before .args .p .big) 4 (zero-lt-suc 3)) at (c .before .before .before .before .before .before .before .u32-at .ensures)), ← c .before .before .before .before .before .prop-string .ensures, c .before .before .before .named .given .1, ← (rw (c .before .before .before .before .before .before .before .before .reach .ensures, byte-reach (c .before .before .before .before .before .before .before .before .before .before .before .before .args .s .now) (c .before .before .before .before .before .before .before .before .before .before .before .before .args .p .records + 9 * c .before .before .before .before .before .before .before .before .before .before .before .before .args .i) 4) at (c .before .byte-at .ensures)), eq-eqb _ _ (c .if2 .taken))
-
--- src/lib.rt:61:17
-prop-string-requires-2 : tie.Need-prop-string-requires-2
-prop-string-requires-2 c κs = search needs
-
--- src/lib.rt:63:29
-enum-known-text : tie.Need-enum-known-text
-enum-known-text c = search needs
-
--- src/lib.rt:67:32
-enum-known-text-2 : tie.Need-enum-known-text-2
-enum-known-text-2 c = search needs
-
--- src/lib.rt:70:24
-enum-known-named-2 : tie.Need-enum-known-named-2
-enum-known-named-2 c = search needs
-
--- src/lib.rt:41:1
-returns-3 : tie.Need-returns-3
-unfolding propOf
-returns-3 c =
-    rw (lt-leb _ _ (c .before .before .before .before .before .before .before .before .before .before .before .before .before .if1 .left), ← (rw (c .before .before .before .before .before .before .before .before .before .before .before .before .reach .ensures, number-reach (c .before .before .before .before .before .before .before .before .before .before .before .before .before .before .before .before .args .s .now) (c .before .before .before .before .before .before .before .before .before .before .before .before .before .before .before .before .args .p .records + 9 * c .before .before .before .before .before .before .before .before .before .before .before .before .before .before .before .before .args .i) 0 (c .before .before .before .before .before .before .before .before .before .before .before .before .before .before .before .before .args .p .big) 4 (zero-lt-suc 3), add-zero (c .before .before .before .before .before .before .before .before .before .before .before .before .before .before .before .before .args .p .records + 9 * c .before .before .before .before .before .before .before .before .before .before .before .before .before .before .before .before .args .i)) at (c .before .before .before .before .before .before .before .before .before .before .u32-at2 .ensures)), ← (rw (c .before .before .before .before .before .before .before .before .before .before .before .before .reach .ensures, number-reach (c .before .before .before .before .before .before .before .before .before .before .before .before .before .before .before .before .args .s .now) (c .before .before .before .before .before .before .before .before .before .before .before .before .before .before .before .before .args .p .records + 9 * c .before .before .before .before .before .before .before .before .before .before .before .before .before .before .before .before .args .i) 5 (c .before .before .before .before .before .before .before .before .before .before .before .before .before .before .before .before .args .p .big) 4 (zero-lt-suc 3)) at (c .before .before .before .before .before .before .before .before .before .before .before .u32-at .ensures)), ← c .before .before .before .before .before .before .before .before .before .prop-string .ensures, c .before .before .before .before .before .before .before .named .given .1, ← (rw (c .before .before .before .before .before .before .before .before .before .before .before .before .reach .ensures, byte-reach (c .before .before .before .before .before .before .before .before .before .before .before .before .before .before .before .before .args .s .now) (c .before .before .before .before .before .before .before .before .before .before .before .before .before .before .before .before .args .p .records + 9 * c .before .before .before .before .before .before .before .before .before .before .before .before .before .before .before .before .args .i) 4) at (c .before .before .before .before .before .byte-at .ensures)), ne-eqb _ _ (c .before .before .before .before .if2 .left), ← c .before .before .before .prop-string2 .ensures, c .before .text .given .1)
-
--- src/lib.rt:41:1
-returns-4 : tie.Need-returns-4
-unfolding propOf
-returns-4 c =
-    rw (lt-leb _ _ (c .before .before .before .before .before .before .before .before .before .before .before .before .before .if1 .left), ← (rw (c .before .before .before .before .before .before .before .before .before .before .before .before .reach .ensures, number-reach (c .before .before .before .before .before .before .before .before .before .before .before .before .before .before .before .before .args .s .now) (c .before .before .before .before .before .before .before .before .before .before .before .before .before .before .before .before .args .p .records + 9 * c .before .before .before .before .before .before .before .before .before .before .before .before .before .before .before .before .args .i) 0 (c .before .before .before .before .before .before .before .before .before .before .before .before .before .before .before .before .args .p .big) 4 (zero-lt-suc 3), add-zero (c .before .before .before .before .before .before .before .before .before .before .before .before .before .before .before .before .args .p .records + 9 * c .before .before .before .before .before .before .before .before .before .before .before .before .before .before .before .before .args .i)) at (c .before .before .before .before .before .before .before .before .before .before .u32-at2 .ensures)), ← (rw (c .before .before .before .before .before .before .before .before .before .before .before .before .reach .ensures, number-reach (c .before .before .before .before .before .before .before .before .before .before .before .before .before .before .before .before .args .s .now) (c .before .before .before .before .before .before .before .before .before .before .before .before .before .before .before .before .args .p .records + 9 * c .before .before .before .before .before .before .before .before .before .before .before .before .before .before .before .before .args .i) 5 (c .before .before .before .before .before .before .before .before .before .before .before .before .before .before .before .before .args .p .big) 4 (zero-lt-suc 3)) at (c .before .before .before .before .before .before .before .before .before .before .before .u32-at .ensures)), ← c .before .before .before .before .before .before .before .before .before .prop-string .ensures, c .before .before .before .before .before .before .before .named .given .1, ← (rw (c .before .before .before .before .before .before .before .before .before .before .before .before .reach .ensures, byte-reach (c .before .before .before .before .before .before .before .before .before .before .before .before .before .before .before .before .args .s .now) (c .before .before .before .before .before .before .before .before .before .before .before .before .before .before .before .before .args .p .records + 9 * c .before .before .before .before .before .before .before .before .before .before .before .before .before .before .before .before .args .i) 4) at (c .before .before .before .before .before .byte-at .ensures)), ne-eqb _ _ (c .before .before .before .before .if2 .left), ← c .before .before .before .prop-string2 .ensures, c .before .text2 .given .1)
-
--- src/lib.rt:41:1
-returns-5 : tie.Need-returns-5
-unfolding propOf
-returns-5 c =
-    rw (lt-leb _ _ (c .before .before .before .before .before .before .before .if1 .left), ← (rw (c .before .before .before .before .before .before .reach .ensures, number-reach (c .before .before .before .before .before .before .before .before .before .before .args .s .now) (c .before .before .before .before .before .before .before .before .before .before .args .p .records + 9 * c .before .before .before .before .before .before .before .before .before .before .args .i) 0 (c .before .before .before .before .before .before .before .before .before .before .args .p .big) 4 (zero-lt-suc 3), add-zero (c .before .before .before .before .before .before .before .before .before .before .args .p .records + 9 * c .before .before .before .before .before .before .before .before .before .before .args .i)) at (c .before .before .before .before .u32-at2 .ensures)), ← c .before .before .before .prop-string .ensures, c .before .named2 .given .1)
+      stringless : (r : Refusal) → text ≡ Named.Refused r → PropFound.Refused r ≡ propOf s p i
+      unfolding propOf
+      stringless r h = rw (lt-leb _ _ below, ← from-first, ← value-first, ← flag-first, ← named-is, got, ne-eqb _ _ e, ← text-is, h)
 
 pub prop-of-spec : {M : Type 1} → statement M
 prop-of-spec =
     tie.close
     (tie.spec
-    returns
-    mul-reach
-    reach-requires
-    u32-at-requires
-    u32-at-requires-2
-    prop-string-requires
-    enum-known-named
-    byte-at-requires
-    returns-2
-    prop-string-requires-2
-    enum-known-text
-    enum-known-text-2
-    enum-known-named-2
-    returns-3
-    returns-4
-    returns-5)
+    (λ c. search beyond)  -- returns
+    (λ c. search needs)  -- mul-reach
+    (λ c κs. search needs)  -- reach-requires
+    (λ c κs. search needs)  -- u32-at-requires
+    (λ c κs. search needs)  -- u32-at-requires-2
+    (λ c κs. search needs)  -- prop-string-requires
+    (λ c. search needs)  -- enum-known-named
+    (λ c κs. search needs)  -- byte-at-requires
+    (λ c. search number)  -- returns-2
+    (λ c κs. search needs)  -- prop-string-requires-2
+    (λ c. search needs)  -- enum-known-text
+    (λ c. search needs)  -- enum-known-text-2
+    (λ c. search needs)  -- enum-known-named-2
+    (λ c. search string)  -- returns-3
+    (λ c. search stringless)  -- returns-4
+    (λ c. search nameless))  -- returns-5

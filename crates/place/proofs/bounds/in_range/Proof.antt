@@ -4,9 +4,8 @@ use Rattle.place.proofs.Whole.{from-zero}
 use Rattle.place.proofs.bounds.in_range.Statement.{statement}
 use Rattle.place.proofs.bounds.in_range.Tie as tie
 
--- src/bounds.rt:27:1
-returns : tie.Need-returns
-returns c = rw (toZ-ofZ {w = w32} {z = c .args .z} (c .fits .z), from-zero (c .args .z))
-
 pub in-range-spec : {M : Type 1} → statement M
-in-range-spec = tie.close (tie.spec returns)
+in-range-spec =
+    tie.close
+    (tie.spec
+    (λ c. rw (toZ-ofZ {w = w32} {z = c .args .z} (c .fits .z), from-zero (c .args .z))))  -- returns

@@ -6,13 +6,12 @@ use borrow.Author.Needs.{needs}
 use Rattle.place.proofs.bounds.natural_i32.Statement.{statement}
 use Rattle.place.proofs.bounds.natural_i32.Tie as tie
 
--- src/bounds.rt:58:5
 cast-result : tie.Need-cast-result
 cast-result c = rw (toZ-ofZ {w = w32} {z = c .args .z} (c .fits .z)) (in-range-small (c .args .z) (c .pre) .0, omega (arith, in-range-small (c .args .z) (c .pre) .1))
 
--- src/bounds.rt:54:1
-returns : tie.Need-returns
-returns c = search needs
-
 pub natural-i32-spec : {M : Type 1} → statement M
-natural-i32-spec = tie.close (tie.spec cast-result returns)
+natural-i32-spec =
+    tie.close
+    (tie.spec
+    cast-result
+    (λ c. search needs))  -- returns
