@@ -8,6 +8,7 @@ use lib.ListN.{length}
 use Rattle.reads.specs.Num.{byteAt}
 use Rattle.tables.specs.declared.BitmapData.{BitmapData}
 use Rattle.bitmaps.specs.Rows.{rowBytes, rowStride, column, bitAt}
+use Rattle.bitmaps.specs.Place.{Place}
 use Rattle.bitmaps.specs.Dots.{someDot}
 use Rattle.bitmaps.specs.Picture.{bitsOf, offsetOf, rowOf, rowsShort, glyphBit}
 use Rattle.bitmaps.proofs.DataBytes.{data-length, data-byte}
@@ -38,8 +39,8 @@ module _ (s : List ℕ) (b : BitmapData) (g width n : ℕ) (there : rowsShort s 
         ap (λ (x : ℕ). column x (c % 8)) (data-byte s b k (omega (arith, in-data (c / 8) l, data-length s b)) ∙ ap (λ (x : ℕ). byteAt s x) e)
 
   -- the pixels of the glyph's first columns are those of the file's bits
-  pub dots-in-file : (p stride scale columns : ℕ) (test : ℕ → Bool) → columns ≤ 8 * rowBytes width
-      → someDot (glyphBit s b g width) p stride scale columns n test ≡ someDot (λ r. bitAt s (fileRow r)) p stride scale columns n test
-  dots-in-file p stride scale columns test h =
-      dot-same stride scale columns n (glyphBit s b g width) (λ r. bitAt s (fileRow r)) p p test test
+  pub dots-in-file : (at : Place) (columns : ℕ) (test : ℕ → Bool) → columns ≤ 8 * rowBytes width
+      → someDot (glyphBit s b g width) at columns n test ≡ someDot (λ r. bitAt s (fileRow r)) at columns n test
+  dots-in-file at columns test h =
+      dot-same (at .stride) (at .scale) columns n (glyphBit s b g width) (λ r. bitAt s (fileRow r)) (at .p) (at .p) test test
       (λ r c l k. bit-in-file r l c (omega arith)) (λ k. refl)

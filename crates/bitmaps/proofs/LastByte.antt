@@ -2,24 +2,26 @@
 use mathlib.Core.Path.{_≡_, sym, _∙_}
 use mathlib.Core.Bool.{false}
 use mathlib.Core.List.{List}
-use Prim.Native.Nat.{ℕ, _+_, _-_, _*_, _/_, _≤_, _<_}
-use native.Mathlib.Nat.{mul-le-mul-right, div-mul-le-self, le-trans, mul-zero}
+use Prim.Native.Nat.{ℕ, _+_, _-_, _*_, _/_, _^_, _≤_, _<_}
+use native.Mathlib.Nat.{mul-le-mul, mul-le-mul-right}
 use native.Mathlib.Omega.{arith}
 use lib.ListN.{length}
 use lib.Dec.{leb}
+use mir.Syntax.{w64}
+use mir.Val.{Fits}
 use borrow.Author.Tests.{leb-true, leb-false}
 use Rattle.reads.proofs.Tests.{split}
 use Rattle.tables.specs.declared.BitmapData.{BitmapData}
-use Rattle.bitmaps.specs.Rows.{rowBytes, rowStride}
-use Rattle.bitmaps.specs.Picture.{bitsOf, rowOf, rowsShort}
+use Rattle.bitmaps.specs.Rows.{rowStride}
+use Rattle.bitmaps.specs.Picture.{bitsOf, offsetOf, rowOf, rowsShort}
 use Rattle.bitmaps.proofs.RowsInside.{rows-inside, inside-rows}
 
 module _ (s : List ℕ) (b : BitmapData) (g : ℕ) where
-  pub no-rows : (width : ℕ) → rowsShort s b g width 0 ≡ false
-  no-rows width = inside-rows s b g width 0 (λ r c h l. absurd (omega arith))
+  pub no-rows : (width n : ℕ) → n ≡ 0 → false ≡ rowsShort s b g width n
+  no-rows width n e = sym (inside-rows s b g width n (λ r c h l. absurd (omega arith)))
 
-  pub no-columns : (n : ℕ) → rowsShort s b g 0 n ≡ false
-  no-columns n = inside-rows s b g 0 n (λ r c h l. absurd (omega arith))
+  pub no-columns : (width n : ℕ) → width ≡ 0 → false ≡ rowsShort s b g width n
+  no-columns width n e = sym (inside-rows s b g width n (λ r c h l. absurd (omega arith)))
 
   pub last-byte : (width n : ℕ) → 0 < width → 0 < n
       → rowsShort s b g width n ≡ leb (length (bitsOf s b)) (rowOf s b g width (n - 1) + (width - 1) / 8)
@@ -35,10 +37,22 @@ module _ (s : List ℕ) (b : BitmapData) (g : ℕ) where
       omega (arith, leb-false size last t))
       ∙ sym t)
 
--- a row is short enough for any sum of the places that a picture needs
-pub stride-small : (width pad : ℕ) → width < 65536 → pad < 256 → rowStride width pad ≤ 8446
-stride-small width pad h k = le-trans (div-mul-le-self (rowBytes width + (pad - 1)) pad) (omega arith)
+-- where the last row and its last byte lie: no sum leaves 64 bits
+module _ (n stride : ℕ) (rows : n < 2 ^ 16) (bytes : stride < 2 ^ 32) where
+  last-row : (n - 1) * stride ≤ 65535 * 4294967295
+  last-row = mul-le-mul {n₂ = 65535} {m₂ = 4294967295} (omega arith) (omega arith)
 
--- without a row pad the stride is 0, as any number divided by 0 and then taken 0 times
-pub no-pad : (width : ℕ) → rowStride width 0 ≡ 0
-no-pad width = mul-zero _
+  pub rows-before-fit : Fits w64 ((n - 1) * stride)
+  rows-before-fit = omega (arith, last-row)
+
+  pub last-row-fits : (first : ℕ) → first < 2 ^ 32 → Fits w64 (first + (n - 1) * stride)
+  last-row-fits first h = omega (arith, last-row)
+
+  pub last-byte-fits : (first width : ℕ) → first < 2 ^ 32 → width < 2 ^ 16 → Fits w64 (first + (n - 1) * stride + (width - 1) / 8)
+  last-byte-fits first width h k = omega (arith, last-row)
+
+pub by-last-byte : (s : List ℕ) (b : BitmapData) (g width n first stride size : ℕ) → (n ≡ 0 → ⊥) → (width ≡ 0 → ⊥)
+    → first ≡ offsetOf s b g → stride ≡ rowStride width (b .pad) → size ≡ length (bitsOf s b)
+    → leb size (first + (n - 1) * stride + (width - 1) / 8) ≡ rowsShort s b g width n
+by-last-byte s b g width n first stride size rows columns first-is stride-is size-is =
+    rw (first-is, stride-is, size-is) (sym (last-byte s b g width n (omega arith) (omega arith)))

@@ -1,16 +1,20 @@
 -- The first columns of a glyph's rows, read from the file and coloured in what the buffer has from p on, are that picture drawn at p.
-use Prim.Native.Nat.{ℕ, _+_, _-_, _*_, _<_, _≤_}
+use Prim.Native.Nat.{ℕ, _+_, _-_, _*_, _^_, _<_, _≤_}
 use mathlib.Core.Path.{_≡_, sym, _∙_}
 use mathlib.Core.Bool.{Bool, false}
 use mathlib.Core.List.{List}
 use native.Mathlib.Omega.{arith}
 use lib.Dec.{eqb, leb}
 use lib.ListN.{length, take, drop}
+use mir.Syntax.{w64}
+use mir.Val.{Fits}
 use borrow.Rule.Slice.PartMut.{putMid}
 use Rattle.tables.specs.declared.BitmapData.{BitmapData}
 use Rattle.bitmaps.specs.Paint.{painted}
 use Rattle.bitmaps.specs.Rows.{rowBytes, rowStride, bitAt}
+use Rattle.bitmaps.specs.Place.{placeAt}
 use Rattle.bitmaps.specs.Dots.{someDot}
+use Rattle.bitmaps.specs.Ink.{inRows, rowsPast, rowBits, RowsIn}
 use Rattle.bitmaps.specs.Picture.{offsetOf, rowsShort, glyphBit, inPicture, pixelPast}
 use Rattle.bitmaps.proofs.Painting.{painted-same, lent-length}
 use Rattle.bitmaps.proofs.Shift.{past-room, lent-painted}
@@ -21,30 +25,39 @@ module _ (s : List ℕ) (b : BitmapData) (g width n : ℕ) (there : rowsShort s 
   pub first-there : 0 < n → 0 < width → b .bits + offsetOf s b g < length s
   first-there h l = omega (arith, row-in-file s b g width n there 0 h 0 (omega arith))
 
+  pub first-fits : (offset : ℕ) → offset ≡ offsetOf s b g → (n ≡ 0 → ⊥) → (width ≡ 0 → ⊥) → length s < 2 ^ 64 → Fits w64 (b .bits + offset)
+  first-fits offset is h l fits = omega (arith, first-there (omega arith) (omega arith))
+
   module _ (offset step : ℕ) (o : offset ≡ offsetOf s b g) (t : step ≡ rowStride width (b .pad)) where
     abbrev row : ℕ → ℕ
     row r = b .bits + offset + r * step
 
     -- each byte of each row lies in the file
-    pub byte-there : (r j : ℕ) → r < n → j < rowBytes width → row r + j < length s
+    byte-there : (r j : ℕ) → r < n → j < rowBytes width → row r + j < length s
     byte-there r j h l = rw (o, t) (row-in-file s b g width n there r h j l)
 
+    -- and so does each row
+    pub rows-there : 0 < width → RowsIn s (b .bits + offset) step (rowBytes width) n
+    rows-there w = record { there = λ r h. omega (arith, byte-there r (rowBytes width - 1) h (omega arith)) }
+
     module _ (columns p stride scale : ℕ) (whole : columns ≤ 8 * rowBytes width) where
-      in-file : (test : ℕ → Bool) → someDot (glyphBit s b g width) p stride scale columns n test ≡ someDot (λ r. bitAt s (row r)) p stride scale columns n test
-      in-file test = rw (o, t) (dots-in-file s b g width n there p stride scale columns test whole)
+      in-file : (test : ℕ → Bool) → someDot (glyphBit s b g width) (placeAt p stride scale) columns n test ≡ someDot (λ r. bitAt s (row r)) (placeAt p stride scale) columns n test
+      in-file test = rw (o, t) (dots-in-file s b g width n there (placeAt p stride scale) columns test whole)
 
       -- no pixel lies past what is lent, as none lies past the buffer
-      pub lent-room : (buf : List ℕ) → pixelPast s b g width columns p stride scale n (length buf) ≡ false
-          → someDot (λ r. bitAt s (row r)) 0 stride scale columns n (λ j. leb (length (take (length buf - p) (drop p buf))) j) ≡ false
+      pub lent-room : (buf : List ℕ) → pixelPast s b g width columns (placeAt p stride scale) n (length buf) ≡ false
+          → rowsPast (rowBits s (b .bits + offset) step) (placeAt 0 stride scale) columns n (length (take (length buf - p) (drop p buf))) ≡ false
+      unfolding rowsPast rowBits
       lent-room buf e =
           rw (lent-length p buf)
           (sym (past-room stride scale columns n (λ r. bitAt s (row r)) p (length buf)) ∙ sym (in-file (λ j. leb (length buf) j)) ∙ e)
 
       -- what is coloured in it is coloured in the whole
       pub lent-drawn : (colour : ℕ) (buf new : List ℕ)
-          → new ≡ painted (λ i. someDot (λ r. bitAt s (row r)) 0 stride scale columns n (λ j. eqb i j)) colour (take (length buf - p) (drop p buf))
-          → putMid p (length buf - p) buf new ≡ painted (inPicture s b g width columns p stride scale n) colour buf
+          → new ≡ painted (inRows (rowBits s (b .bits + offset) step) (placeAt 0 stride scale) columns n) colour (take (length buf - p) (drop p buf))
+          → putMid p (length buf - p) buf new ≡ painted (inPicture s b g width columns (placeAt p stride scale) n) colour buf
+      unfolding inRows rowBits
       lent-drawn colour buf new e =
           lent-painted stride scale columns n (λ r. bitAt s (row r)) p colour buf new e
-          ∙ painted-same (λ i. someDot (λ r. bitAt s (row r)) p stride scale columns n (λ j. eqb i j)) (inPicture s b g width columns p stride scale n) colour buf
+          ∙ painted-same (λ i. someDot (λ r. bitAt s (row r)) (placeAt p stride scale) columns n (λ j. eqb i j)) (inPicture s b g width columns (placeAt p stride scale) n) colour buf
           (λ i l. sym (in-file (λ j. eqb i j)))

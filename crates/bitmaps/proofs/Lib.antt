@@ -1,4 +1,5 @@
 pub mod Searching
+pub mod Pieces
 pub mod Painting
 pub mod Pixels
 pub mod CutRule
@@ -8,6 +9,7 @@ pub mod LastByte
 pub mod Shift
 pub mod InFile
 pub mod Order
+pub mod RowBits
 pub mod WholeBytes
 pub mod NoDots
 pub mod PictureRows

@@ -5,6 +5,7 @@ use mathlib.Core.Bool.{true, false}
 use mathlib.Core.List.{List}
 use Rattle.reads.specs.Said.{refusal}
 use Rattle.tables.specs.declared.BitmapData.{BitmapData}
+use Rattle.bitmaps.specs.Place.{Place}
 use Rattle.bitmaps.specs.Cut.{drawnRows}
 use Rattle.bitmaps.specs.Picture.{unreadable, rowsShort}
 use Rattle.bitmaps.specs.Draw.{shownAt}
@@ -12,11 +13,11 @@ use Rattle.bitmaps.specs.Unpack.{unpackedAt}
 use Rattle.bitmaps.specs.declared.Drawn.{Drawn}
 use Rattle.bitmaps.specs.declared.Unpacked.{Unpacked}
 
-pub fourteen-first : (s : List ℕ) (b : BitmapData) (g width height len p stride scale : ℕ)
-    → unreadable b ≡ false → rowsShort s b g width (drawnRows len p stride scale height) ≡ true
-    → shownAt s b g width height len p stride scale ≡ Drawn.Refused (refusal 14 0)
+pub fourteen-first : (s : List ℕ) (b : BitmapData) (g width height len : ℕ) (at : Place)
+    → unreadable b ≡ false → rowsShort s b g width (drawnRows len at height) ≡ true
+    → shownAt s b g width height len at ≡ Drawn.Refused (refusal 14 0)
 unfolding shownAt
-fourteen-first s b g width height len p stride scale e f = rw (e, f) refl
+fourteen-first s b g width height len at e f = rw (e, f) refl
 
 pub fourteen-first-unpacked : (s : List ℕ) (b : BitmapData) (g width height len p stride : ℕ)
     → unreadable b ≡ false → rowsShort s b g width height ≡ true → unpackedAt s b g width height len p stride ≡ Unpacked.Refused (refusal 14 0)

@@ -1,7 +1,7 @@
 -- What colouring does: it changes exactly the places that its rule has. Colouring twice, one store, and a buffer whose end was lent.
 use Prim.Native.Nat.{ℕ, zero, suc, _+_, _-_, _≤_, _<_, suc-le-suc}
 use mathlib.Core.Path.{_≡_, refl, sym, ap, ap₂, _∙_}
-use mathlib.Core.Bool.{Bool, true, false, cond, _&&_, _||_}
+use mathlib.Core.Bool.{Bool, true, false, cond, _&&_, _||_, or-self}
 use mathlib.Core.List.{List, [], _∷_, _++_, append-nil}
 use native.Mathlib.Nat.{le-of-eq, le-of-suc-le-suc, not-suc-le-zero, zero-lt-suc, suc-add, zero-add}
 use native.Mathlib.Numerals.{add-one}
@@ -55,13 +55,15 @@ painted-or p q colour (x ∷ xs) =
     ap₂ {C = List ℕ} (λ (y : ℕ) (r : List ℕ). y ∷ r) (cond-or (p zero) (q zero) colour x)
     (painted-or (λ k. p (suc k)) (λ k. q (suc k)) colour xs)
 
-or-twice : (a : Bool) → a || a ≡ a
-or-twice true = refl
-or-twice false = refl
+-- coloured by one rule and then by another, where a third has what either has
+pub painted-in-turn : (colour : ℕ) (p q r : ℕ → Bool) (old buf new : List ℕ) → ((i : ℕ) → r i ≡ p i || q i)
+    → buf ≡ painted p colour old → new ≡ painted q colour buf → new ≡ painted r colour old
+painted-in-turn colour p q r old buf new either first second =
+    second ∙ ap (painted q colour) first ∙ sym (painted-or p q colour old) ∙ painted-same (λ i. p i || q i) r colour old (λ i h. sym (either i))
 
 -- colouring twice by one rule is colouring once
 pub painted-twice : (p : ℕ → Bool) (colour : ℕ) (old : List ℕ) → painted p colour (painted p colour old) ≡ painted p colour old
-painted-twice p colour old = sym (painted-or p p colour old) ∙ painted-same (λ i. p i || p i) p colour old (λ i h. or-twice (p i))
+painted-twice p colour old = sym (painted-or p p colour old) ∙ painted-same (λ i. p i || p i) p colour old (λ i h. or-self (p i))
 
 -- a rule without places beyond the buffer colours nothing that is put behind it
 pub painted-longer : (p : ℕ → Bool) (colour : ℕ) (old more : List ℕ) → ((i : ℕ) → length old ≤ i → p i ≡ false)

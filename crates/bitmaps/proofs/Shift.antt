@@ -11,10 +11,11 @@ use borrow.Author.Tests.{eqb-true, eq-eqb}
 use borrow.Rule.Slice.PartMut.{putMid}
 use Rattle.reads.proofs.Tests.{split, same-leb}
 use Rattle.bitmaps.specs.Paint.{painted}
+use Rattle.bitmaps.specs.Place.{placeAt}
 use Rattle.bitmaps.specs.Dots.{someDot}
 use Rattle.bitmaps.proofs.Searching.{same-test}
 use Rattle.bitmaps.proofs.Painting.{painted-tail, lent-is, lent-back}
-use Rattle.bitmaps.proofs.Pixels.{Dot, dot-true, dot-found}
+use Rattle.bitmaps.proofs.Pixels.{dot-found, dot-moved}
 
 same-eqb : (p i k : ℕ) → eqb (p + i) (p + k) ≡ eqb i (0 + k)
 same-eqb p i k =
@@ -23,57 +24,40 @@ same-eqb p i k =
     (λ t. eq-eqb (p + i) (p + k) (omega (arith, eqb-true i (0 + k) t)))
 
 module _ (stride scale width n : ℕ) where
-  move : (bit bit′ : ℕ → ℕ → Bool) (p p′ : ℕ) (test test′ : ℕ → Bool)
-      → ((r c : ℕ) → r < n → c < width → bit r c ≡ bit′ r c) → ((k : ℕ) → test (p + k) ≡ test′ (p′ + k))
-      → Dot bit p stride scale width n test → Dot bit′ p′ stride scale width n test′
-  move bit bit′ p p′ test test′ bits tests d =
-      let k = d .row * stride * scale + d .column * scale + d .down * stride + d .right in
-      let here : p + d .row * stride * scale + d .column * scale + d .down * stride + d .right ≡ p + k = omega arith in
-      let there : p′ + d .row * stride * scale + d .column * scale + d .down * stride + d .right ≡ p′ + k = omega arith in
-      record {
-        row = d .row;
-        column = d .column;
-        down = d .down;
-        right = d .right;
-        row-in = d .row-in;
-        column-in = d .column-in;
-        down-in = d .down-in;
-        right-in = d .right-in;
-        is-set = sym (bits (d .row) (d .column) (d .row-in) (d .column-in)) ∙ d .is-set;
-        passes = ap test′ there ∙ sym (tests k) ∙ sym (ap test here) ∙ d .passes;
-      }
+  -- the search from place p on
+  abbrev dots : (ℕ → ℕ → Bool) → ℕ → (ℕ → Bool) → Bool
+  dots bit p test = someDot bit (placeAt p stride scale) width n test
 
   -- the same bits with the test moved as the place is
   pub dot-same : (bit bit′ : ℕ → ℕ → Bool) (p p′ : ℕ) (test test′ : ℕ → Bool)
-      → ((r c : ℕ) → r < n → c < width → bit r c ≡ bit′ r c) → ((k : ℕ) → test (p + k) ≡ test′ (p′ + k))
-      → someDot bit p stride scale width n test ≡ someDot bit′ p′ stride scale width n test′
+      → ((r c : ℕ) → r < n → c < width → bit r c ≡ bit′ r c) → ((k : ℕ) → test (p + k) ≡ test′ (p′ + k)) → dots bit p test ≡ dots bit′ p′ test′
   dot-same bit bit′ p p′ test test′ bits tests =
-      same-test (someDot bit p stride scale width n test) (someDot bit′ p′ stride scale width n test′)
-      (λ t. dot-true bit′ p′ stride scale width n test′ (move bit bit′ p p′ test test′ bits tests (dot-found bit p stride scale width n test t)))
-      (λ t. dot-true bit p stride scale width n test (move bit′ bit p′ p test′ test (λ r c h l. sym (bits r c h l)) (λ k. sym (tests k)) (dot-found bit′ p′ stride scale width n test′ t)))
+      same-test (dots bit p test) (dots bit′ p′ test′)
+      (dot-moved stride scale width n bit bit′ p p′ test test′ (λ r c h l t. sym (bits r c h l) ∙ t) (λ k t. sym (tests k) ∙ t))
+      (dot-moved stride scale width n bit′ bit p′ p test′ test (λ r c h l t. bits r c h l ∙ t) (λ k t. tests k ∙ t))
 
   module _ (bit : ℕ → ℕ → Bool) (p : ℕ) where
     -- 16 asks how much room the buffer has from p on
-    pub past-room : (len : ℕ) → someDot bit p stride scale width n (λ j. leb len j) ≡ someDot bit 0 stride scale width n (λ j. leb (len - p) j)
+    pub past-room : (len : ℕ) → dots bit p (λ j. leb len j) ≡ dots bit 0 (λ j. leb (len - p) j)
     past-room len =
-        dot-same bit bit p 0 (λ j. leb len j) (λ j. leb (len - p) j) (λ r c h l. refl) (λ k. same-leb len (p + k) (len - p) (0 + k) (λ h. omega arith) (λ h. omega arith))
+        dot-same bit bit p 0 (λ j. leb len j) (λ j. leb (len - p) j) (λ r c h l. refl)
+        (λ k. same-leb len (p + k) (len - p) (0 + k) (λ h. omega arith) (λ h. omega arith))
 
     -- no pixel lies before p
-    pub none-before : (i : ℕ) → i < p → someDot bit p stride scale width n (λ j. eqb i j) ≡ false
+    pub none-before : (i : ℕ) → i < p → dots bit p (λ j. eqb i j) ≡ false
     none-before i h =
-        split (someDot bit p stride scale width n (λ j. eqb i j))
+        split (dots bit p (λ j. eqb i j))
         (λ t.
-        let d = dot-found bit p stride scale width n (λ j. eqb i j) t in
+        let d = dot-found bit (placeAt p stride scale) width n (λ j. eqb i j) t in
         absurd (omega (arith, eqb-true i (p + d .row * stride * scale + d .column * scale + d .down * stride + d .right) (d .passes))))
         (λ t. t)
 
     -- drawn in what was lent from p on, drawn in the whole
-    pub lent-painted : (colour : ℕ) (old new : List ℕ)
-        → new ≡ painted (λ i. someDot bit 0 stride scale width n (λ j. eqb i j)) colour (take (length old - p) (drop p old))
-        → putMid p (length old - p) old new ≡ painted (λ i. someDot bit p stride scale width n (λ j. eqb i j)) colour old
+    pub lent-painted : (colour : ℕ) (old new : List ℕ) → new ≡ painted (λ i. dots bit 0 (λ j. eqb i j)) colour (take (length old - p) (drop p old))
+        → putMid p (length old - p) old new ≡ painted (λ i. dots bit p (λ j. eqb i j)) colour old
     lent-painted colour old new e =
+        let first : ℕ → Bool = λ i. dots bit 0 (λ j. eqb i j) in
         lent-back p old new
-        ∙ ap (λ (z : List ℕ). take p old ++ z) (e ∙ ap (painted (λ i. someDot bit 0 stride scale width n (λ j. eqb i j)) colour) (lent-is p old))
-        ∙ painted-tail p colour (λ i. someDot bit 0 stride scale width n (λ j. eqb i j)) (λ i. someDot bit p stride scale width n (λ j. eqb i j)) old
-        none-before
+        ∙ ap (λ (z : List ℕ). take p old ++ z) (e ∙ ap (painted first colour) (lent-is p old))
+        ∙ painted-tail p colour first (λ i. dots bit p (λ j. eqb i j)) old none-before
         (λ i. dot-same bit bit p 0 (λ j. eqb (p + i) j) (λ j. eqb i j) (λ r c h l. refl) (λ k. same-eqb p i k))

@@ -1,8 +1,10 @@
 pub mod Paint
+pub mod Place
 pub mod Limits
 pub mod Cut
 pub mod Rows
 pub mod Dots
+pub mod Ink
 pub mod Picture
 pub mod Draw
 pub mod Unpack

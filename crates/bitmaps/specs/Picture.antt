@@ -8,6 +8,7 @@ use lib.Dec.{leb, eqb}
 use Rattle.reads.specs.Num.{u32At}
 use Rattle.tables.specs.declared.BitmapData.{BitmapData}
 use Rattle.bitmaps.specs.Rows.{rowStride, bitAt, bytesPast}
+use Rattle.bitmaps.specs.Place.{Place}
 use Rattle.bitmaps.specs.Dots.{someDot}
 
 -- 12 "glyph at or above the bitmap count"
@@ -38,10 +39,10 @@ rowsShort s b g width n = bytesPast (length (bitsOf s b)) (rowOf s b g width) wi
 unfoldable pub glyphBit : List ℕ → BitmapData → ℕ → ℕ → ℕ → ℕ → Bool
 glyphBit s b g width r c = bitAt (bitsOf s b) (rowOf s b g width r) c
 
--- pixel i is one of glyph g, drawn at p; its first `columns` columns and n rows count
-abbrev pub inPicture : List ℕ → BitmapData → ℕ → ℕ → ℕ → ℕ → ℕ → ℕ → ℕ → ℕ → Bool
-inPicture s b g width columns p stride scale n i = someDot (glyphBit s b g width) p stride scale columns n (λ j. eqb i j)
+-- pixel i is one of glyph g, drawn there; its first `columns` columns and n rows count
+abbrev pub inPicture : List ℕ → BitmapData → ℕ → ℕ → ℕ → Place → ℕ → ℕ → Bool
+inPicture s b g width columns at n i = someDot (glyphBit s b g width) at columns n (λ j. eqb i j)
 
 -- 16 "a pixel to colour lies beyond the buffer", of `len` pixels
-abbrev pub pixelPast : List ℕ → BitmapData → ℕ → ℕ → ℕ → ℕ → ℕ → ℕ → ℕ → ℕ → Bool
-pixelPast s b g width columns p stride scale n len = someDot (glyphBit s b g width) p stride scale columns n (λ j. leb len j)
+abbrev pub pixelPast : List ℕ → BitmapData → ℕ → ℕ → ℕ → Place → ℕ → ℕ → Bool
+pixelPast s b g width columns at n len = someDot (glyphBit s b g width) at columns n (λ j. leb len j)

@@ -2,13 +2,19 @@
 // of rows are 16 bits wide, so that no sum of theirs leaves a usize. Nothing here tests the record:
 // bytes past the end read as 0.
 use reads::GlyphIndex;
-use reads::byte_at;
 use reads::u32_at;
 use tables::BitmapData;
 ghost use mathlib.Core.Path.{_≡_};
 ghost use lib.ListN.{length};
-ghost use Rattle.bitmaps.specs.Rows.{rowBytes, rowStride, rowByte};
-ghost use Rattle.bitmaps.specs.Picture.{unreadable, bitsOf, offsetOf, rowsShort};
+ghost use Rattle.bitmaps.specs.Rows.{rowBytes, rowStride, rowByte, column};
+ghost use Rattle.bitmaps.specs.Picture.{noBitmap, unreadable, bitsOf, offsetOf, rowsShort};
+
+// Whether 12 refuses this glyph: the table has no bitmap for it.
+pub fn no_bitmap(b: BitmapData, g: GlyphIndex) -> bool
+    ensures { λ r. ⌜ r ≡ noBitmap b (g .0) ⌝ }
+{
+    b.count <= g.0 as u32
+}
 
 // Whether 13 refuses every picture of this table: the scan unit code is not 0, or a byte's top bit is
 // not its leftmost.
@@ -66,17 +72,38 @@ pub fn offset_of(s: &[u8], b: BitmapData, g: GlyphIndex) -> u32
     u32_at(s, b.offsets, 4 * (g.0 as usize), b.big)
 }
 
-// Byte j of the row that begins at byte `row` of the bitmap data; 0 past the data's end.
+// The byte with columns 8j to 8j + 7 of a row of which these are the bytes; 0 past their end. Whatever looks at
+// bits reads them here.
+pub fn shown_byte(row: &[u8], j: usize) -> u8
+    ensures { λ r. ⌜ r ≡ rowByte (now (row .entry)) 0 j ⌝ }
+{
+    if row.len() <= j {
+        return 0;
+    }
+    row[j]
+}
+
+// The bit at column k of a byte, the top bit being column 0. Past column 7 it is the lowest bit.
+pub fn bit_of(byte: u8, k: usize) -> bool
+    ensures { λ r. ⌜ r ≡ column byte k ⌝ }
+{
+    if 7 < k {
+        return byte % 2 == 1;
+    }
+    (byte >> (7 - k)) % 2 == 1
+}
+
+// The same byte of the row that begins at byte `row` of the bitmap data; 0 past the data's end.
 pub fn row_byte(s: &[u8], b: BitmapData, row: usize, j: usize) -> u8
     ensures { λ r. ⌜ r ≡ rowByte (bitsOf (now (s .entry)) b) row j ⌝ }
 {
-    if b.size <= row {
+    let size = data_size(s, b);
+    if size <= row {
         return 0;
     }
-    if b.size - row <= j {
-        return 0;
-    }
-    byte_at(s, b.bits, row + j)
+    let from = b.bits + row;
+    let end = b.bits + size;
+    shown_byte(&s[from..end], j)
 }
 
 // Whether 14 refuses the first n rows of a glyph of this width. One comparison: the byte of the last

@@ -1,11 +1,14 @@
 // A glyph's bitmap: its rows of bits, the cut at the buffer's end, the pixels it colours.
 mod data;
 
+pub use data::bit_of;
+pub use data::no_bitmap;
 pub use data::offset_of;
 pub use data::row_byte;
 pub use data::row_bytes;
 pub use data::row_stride;
 pub use data::rows_short;
+pub use data::shown_byte;
 pub use data::unreadable;
 use reads::Refusal;
 

@@ -1,92 +1,73 @@
 -- 16 by corners: of a block, of a row and of a whole glyph the last pixel lies farthest, so that one comparison tells that all fit.
 use Prim.Native.Nat.{ℕ, suc, _+_, _-_, _*_, _≤_, _<_}
 use mathlib.Core.Path.{_≡_, refl, sym, _∙_}
-use mathlib.Core.Bool.{Bool, true, false, _&&_}
-use mathlib.Core.List.{List}
-use native.Mathlib.Nat.{mul-le-mul-right, suc-mul, zero-add}
+use mathlib.Core.Bool.{Bool, false, _&&_}
+use native.Mathlib.Nat.{mul-le-mul-right, suc-mul}
 use native.Mathlib.Omega.{arith}
 use lib.Dec.{leb, ltb}
 use borrow.Author.Tests.{leb-true, le-leb, lt-leb, ltb-true, lt-ltb}
-use Rattle.tables.specs.declared.BitmapData.{BitmapData}
+use Rattle.bitmaps.specs.Place.{Place, placeAt, rowPlace, columnPlace}
 use Rattle.bitmaps.specs.Paint.{some}
-use Rattle.bitmaps.specs.Rows.{rowStride, bitAt}
 use Rattle.bitmaps.specs.Dots.{blockDot, rowDot, someDot}
-use Rattle.bitmaps.specs.Picture.{bitsOf, offsetOf, glyphBit}
-use Rattle.bitmaps.proofs.Searching.{and-none, same-test, some-true, some-witness, some-none, some-next}
+use Rattle.bitmaps.proofs.Searching.{and-none, same-test, some-true, some-witness, some-none}
+use Rattle.bitmaps.proofs.Shift.{past-room}
+use Rattle.bitmaps.proofs.NoDots.{none-found}
 
 last-line : (a n stride : ℕ) → a < n → a * stride ≤ (n - 1) * stride
 last-line a n stride h = mul-le-mul-right stride (omega arith)
 
 -- a block passes the room where its last pixel does
-pub block-past : (at stride scale room : ℕ) → 1 ≤ scale
-    → blockDot at stride scale (λ j. leb room j) ≡ ltb room (at + (scale - 1) * stride + scale)
+pub block-past : (at : Place) (room : ℕ) → 1 ≤ at .scale
+    → blockDot at (λ j. leb room j) ≡ ltb room (at .p + (at .scale - 1) * at .stride + at .scale)
 unfolding blockDot
-block-past at stride scale room low =
-    same-test (blockDot at stride scale (λ j. leb room j)) (ltb room (at + (scale - 1) * stride + scale))
+block-past at room low =
+    let n = at .scale in
+    let past : ℕ → ℕ → Bool = λ a b. leb room (at .p + a * at .stride + b) in
+    let last = at .p + (n - 1) * at .stride in
+    same-test (blockDot at (λ j. leb room j)) (ltb room (last + n))
     (λ t.
-    let (a, h, e) = some-witness scale (λ a. some scale (λ b. leb room (at + a * stride + b))) t in
-    let (b, l, f) = some-witness scale (λ b. leb room (at + a * stride + b)) e in
-    lt-ltb room (at + (scale - 1) * stride + scale) (omega (arith, leb-true room (at + a * stride + b) f, last-line a scale stride h)))
+    let (a, h, e) = some-witness n (λ a. some n (past a)) t in
+    let (b, l, f) = some-witness n (past a) e in
+    lt-ltb room (last + n) (omega (arith, leb-true room (at .p + a * at .stride + b) f, last-line a n (at .stride) h)))
     (λ t.
-    some-true scale (λ a. some scale (λ b. leb room (at + a * stride + b))) (scale - 1) (omega arith)
-    (some-true scale (λ b. leb room (at + (scale - 1) * stride + b)) (scale - 1) (omega arith)
-    (le-leb room (at + (scale - 1) * stride + (scale - 1)) (omega (arith, ltb-true room (at + (scale - 1) * stride + scale) t)))))
+    some-true n (λ a. some n (past a)) (n - 1) (omega arith)
+    (some-true n (past (n - 1)) (n - 1) (omega arith) (le-leb room (last + (n - 1)) (omega (arith, ltb-true room (last + n) t)))))
 
-module _ (stride scale columns room : ℕ) where
-  -- a row fits where the block of its last column does
-  pub row-fits : (bit : ℕ → Bool) (at : ℕ) → at + (scale - 1) * stride + columns * scale ≤ room
-      → rowDot bit at stride scale columns (λ j. leb room j) ≡ false
-  unfolding rowDot blockDot
-  row-fits bit at h =
-      some-none columns (λ c. bit c && blockDot (at + c * scale) stride scale (λ j. leb room j)) (λ c l.
-      and-none (bit c) (blockDot (at + c * scale) stride scale (λ j. leb room j))
-      (some-none scale (λ a. some scale (λ b. leb room (at + c * scale + a * stride + b))) (λ a k.
-      some-none scale (λ b. leb room (at + c * scale + a * stride + b)) (λ b m.
-      let before : suc c * scale ≤ columns * scale = mul-le-mul-right scale l in
-      lt-leb room (at + c * scale + a * stride + b) (omega (arith, before, suc-mul c scale, last-line a scale stride k))))))
+-- Below, a test is a variable with an equation, since `search` does not read what shows only under a λ.
+
+-- a row fits where the block of its last column does
+pub row-fits : (bit : ℕ → Bool) (at : Place) (columns room : ℕ) (test : ℕ → Bool) → at .p + (at .scale - 1) * at .stride + columns * at .scale ≤ room
+    → test ≡ (λ j. leb room j) → false ≡ rowDot bit at columns test
+unfolding rowDot blockDot
+row-fits bit at columns room test h is =
+    let n = at .scale in
+    let past : ℕ → ℕ → ℕ → Bool = λ c a b. leb room (at .p + c * n + a * at .stride + b) in
+    rw is (sym (some-none columns (λ c. bit c && blockDot (columnPlace at c) (λ j. leb room j)) (λ c l.
+    and-none (bit c) (blockDot (columnPlace at c) (λ j. leb room j))
+    (some-none n (λ a. some n (past c a)) (λ a k.
+    some-none n (past c a) (λ b m.
+    let before : suc c * n ≤ columns * n = mul-le-mul-right n l in
+    lt-leb room (at .p + c * n + a * at .stride + b) (omega (arith, before, suc-mul c n, last-line a n (at .stride) k))))))))
+
+module _ (bit : ℕ → ℕ → Bool) (p stride scale columns n len room : ℕ) (test : ℕ → Bool) (room-is : room ≡ len - p) (is : test ≡ (λ j. leb len j)) where
+  -- what passes a buffer of `len` pixels passes the room that it has from p on
+  pub by-room : (past : Bool) → past ≡ someDot bit (placeAt 0 stride scale) columns n (λ j. leb room j)
+      → past ≡ someDot bit (placeAt p stride scale) columns n test
+  by-room past e = rw is ((rw room-is at e) ∙ sym (past-room stride scale columns n bit p len))
 
   -- a glyph fits where its last row does
-  pub corner-fits : (bit : ℕ → ℕ → Bool) (n : ℕ) → (n - 1) * stride * scale + (scale - 1) * stride + columns * scale ≤ room
-      → someDot bit 0 stride scale columns n (λ j. leb room j) ≡ false
+  pub corner-fits : (n - 1) * stride * scale + (scale - 1) * stride + columns * scale ≤ room → false ≡ someDot bit (placeAt p stride scale) columns n test
   unfolding someDot
-  corner-fits bit n h =
-      some-none n (λ r. rowDot (bit r) (0 + r * stride * scale) stride scale columns (λ j. leb room j)) (λ r l.
+  corner-fits h =
+      let first = placeAt 0 stride scale in
+      by-room false (sym (some-none n (λ r. rowDot (bit r) (rowPlace first r) columns (λ j. leb room j)) (λ r l.
       let above : r * stride * scale ≤ (n - 1) * stride * scale = mul-le-mul-right scale (last-line r n stride l) in
-      row-fits (bit r) (0 + r * stride * scale) (omega (arith, above)))
+      sym (row-fits (bit r) (rowPlace first r) columns room (λ j. leb room j) (omega (arith, above)) refl))))
 
--- the search in a row, column by column: b is the bit at column c
-module _ (bit : ℕ → Bool) (at stride scale room c : ℕ) (low : 1 ≤ scale) (b : Bool) (is : b ≡ bit c) where
-  passes : b && ltb room (at + c * scale + (scale - 1) * stride + scale) ≡ bit c && blockDot (at + c * scale) stride scale (λ j. leb room j)
-  passes = rw (is, block-past (at + c * scale) stride scale room low) refl
+-- no pixel passes where there is no row, or where a block has none
+module _ (bit : ℕ → ℕ → Bool) (at : Place) (columns n : ℕ) (test : ℕ → Bool) where
+  pub no-row-past : n ≡ 0 → false ≡ someDot bit at columns n test
+  no-row-past e = sym (none-found bit at columns n (λ r k a h l m. omega arith) test)
 
-  pub column-past : (columns : ℕ) → c < columns → b && ltb room (at + c * scale + (scale - 1) * stride + scale) ≡ true
-      → rowDot bit at stride scale columns (λ j. leb room j) ≡ true
-  unfolding rowDot
-  column-past columns h e = some-true columns (λ c. bit c && blockDot (at + c * scale) stride scale (λ j. leb room j)) c h (sym passes ∙ e)
-
-  pub column-fits : b && ltb room (at + c * scale + (scale - 1) * stride + scale) ≡ false
-      → rowDot bit at stride scale c (λ j. leb room j) ≡ false → rowDot bit at stride scale (c + 1) (λ j. leb room j) ≡ false
-  unfolding rowDot
-  column-fits e f = some-next c (λ c. bit c && blockDot (at + c * scale) stride scale (λ j. leb room j)) f (sym passes ∙ e)
-
--- the search row by row, for any test
-module _ (bit : ℕ → ℕ → Bool) (stride scale columns r : ℕ) (test : ℕ → Bool) where
-  at-zero : rowDot (bit r) (0 + r * stride * scale) stride scale columns test ≡ rowDot (bit r) (r * stride * scale) stride scale columns test
-  at-zero = rw (zero-add (r * stride * scale)) refl
-
-  pub row-found : (n : ℕ) → r < n → rowDot (bit r) (r * stride * scale) stride scale columns test ≡ true
-      → someDot bit 0 stride scale columns n test ≡ true
-  unfolding someDot
-  row-found n h e = some-true n (λ r. rowDot (bit r) (0 + r * stride * scale) stride scale columns test) r h (at-zero ∙ e)
-
-  pub row-next : rowDot (bit r) (r * stride * scale) stride scale columns test ≡ false
-      → someDot bit 0 stride scale columns r test ≡ false → someDot bit 0 stride scale columns (r + 1) test ≡ false
-  unfolding someDot
-  row-next e f = some-next r (λ r. rowDot (bit r) (0 + r * stride * scale) stride scale columns test) f (at-zero ∙ e)
-
--- the rows of a glyph
-pub glyph-rows : (s : List ℕ) (b : BitmapData) (g width p stride scale columns n : ℕ) (test : ℕ → Bool) (first step : ℕ)
-    → first ≡ offsetOf s b g → step ≡ rowStride width (b .pad)
-    → someDot (λ r. bitAt (bitsOf s b) (first + r * step)) p stride scale columns n test ≡ someDot (glyphBit s b g width) p stride scale columns n test
-unfolding glyphBit
-glyph-rows s b g width p stride scale columns n test first step e f = rw (e, f) refl
+  pub no-block-past : at .scale ≡ 0 → false ≡ someDot bit at columns n test
+  no-block-past e = sym (none-found bit at columns n (λ r k a h l m. omega arith) test)

@@ -5,9 +5,10 @@ use mathlib.Core.Bool.{true, _&&_}
 use lib.Dec.{leb}
 use borrow.Author.Tests.{leb-true}
 use Rattle.reads.proofs.Tests.{both}
+use Rattle.bitmaps.specs.Place.{placeAt}
 use Rattle.bitmaps.specs.Limits.{okPlace, okPair}
 
-pub place-limits : (start stride scale : ℕ) → okPlace start stride scale ≡ true
+pub place-limits : (start stride scale : ℕ) → okPlace (placeAt start stride scale) ≡ true
     → (start ≤ 2147483647) × (1 ≤ stride) × (stride ≤ 65535) × (1 ≤ scale) × (scale ≤ 64)
 place-limits start stride scale e =
     let (a, b) = both (leb start 2147483647 && (leb 1 stride && leb stride 65535)) (leb 1 scale && leb scale 64) e in

@@ -4,24 +4,28 @@ use crate::past::room_from;
 use bitmaps::Drawn;
 use bitmaps::Rows;
 use bitmaps::Unpacked;
+use bitmaps::no_bitmap;
 use bitmaps::row_bytes;
 use bitmaps::rows_short;
 use bitmaps::unreadable;
 use reads::GlyphIndex;
 use reads::Refusal;
 use tables::BitmapData;
+use tables::Permit;
 use tables::Record;
+use tables::guard;
 use tables::record_fits;
 ghost use mathlib.Core.Path.{_≡_};
+ghost use Rattle.bitmaps.specs.Place.{placeAt};
 ghost use Rattle.bitmaps.specs.Limits.{okPlace, okPair};
 ghost use Rattle.bitmaps.specs.Cut.{drawnRows};
-ghost use Rattle.bitmaps.specs.Draw.{shownAt, drawBitmap};
+ghost use Rattle.bitmaps.specs.Draw.{shownAt, bitmapReady, drawBitmap};
 ghost use Rattle.bitmaps.specs.Unpack.{unpackedAt};
 
 // How many of a glyph's rows are drawn into a buffer of `len` pixels from p on: the buffer's whole lines,
 // in groups of `scale`.
 fn rows_drawn(len: usize, p: usize, stride: u16, scale: u8, height: u16) -> u16
-    ensures { λ r. ⌜ r ≡ drawnRows len p stride scale height ⌝ }
+    ensures { λ r. ⌜ r ≡ drawnRows len (placeAt p stride scale) height ⌝ }
 {
     if stride == 0 {
         return 0;
@@ -56,7 +60,7 @@ pub fn shown_at(
     stride: u16,
     scale: u8,
 ) -> Drawn
-    ensures { λ r. ⌜ r ≡ shownAt (now (s .entry)) b (g .0) width height len p stride scale ⌝ }
+    ensures { λ r. ⌜ r ≡ shownAt (now (s .entry)) b (g .0) width height len (placeAt p stride scale) ⌝ }
 {
     if unreadable(b) {
         return Drawn::Refused(Refusal {
@@ -132,7 +136,7 @@ pub fn unpacked_at(
 // Whether a caller's start, stride and scale are within their limits: start at most 2,147,483,647, stride
 // 1 to 65,535, scale 1 to 64. If not, drawing answers 15.
 pub fn ok_place(start: usize, stride: usize, scale: usize) -> bool
-    ensures { λ r. ⌜ r ≡ okPlace start stride scale ⌝ }
+    ensures { λ r. ⌜ r ≡ okPlace (placeAt start stride scale) ⌝ }
 {
     (start <= 2147483647) & ((1 <= stride) & (stride <= 65535)) & ((1 <= scale) & (scale <= 64))
 }
@@ -142,6 +146,38 @@ pub fn ok_pair(a: usize, b: usize) -> bool
     ensures { λ r. ⌜ r ≡ okPair a b ⌝ }
 {
     (a <= 32767) & (b <= 32767)
+}
+
+// The tests before a bitmap is drawn: 6 for the record, 15 for the place, the width and the height, 12 for a glyph
+// without a bitmap.
+pub fn bitmap_ready(
+    bytes: &[u8],
+    rec: Record,
+    g: GlyphIndex,
+    width: usize,
+    height: usize,
+    start: usize,
+    stride: usize,
+    scale: usize,
+) -> Permit
+    ensures { λ r. ⌜ r ≡ bitmapReady (now (bytes .entry)) rec (g .0) width height (placeAt start stride scale) ⌝ }
+{
+    let permit = guard(
+        record_fits(bytes.len(), rec),
+        ok_place(start, stride, scale) & ok_pair(width, height),
+    );
+    match permit {
+        Permit::Given => {
+            if no_bitmap(rec.bitmaps, g) {
+                return Permit::Refused(Refusal {
+                    number: 12,
+                    place: 0,
+                });
+            }
+            Permit::Given
+        }
+        Permit::Refused(r) => Permit::Refused(r),
+    }
 }
 
 // What `paint::draw_bitmap` answers with a buffer of `len` pixels, refusals and their order too: a dry run.
@@ -156,35 +192,21 @@ pub fn bitmap_check(
     stride: usize,
     scale: usize,
 ) -> Drawn
-    ensures { λ r. ⌜ r ≡ drawBitmap (now (bytes .entry)) rec (g .0) width height len start stride scale ⌝ }
+    ensures { λ r. ⌜ r ≡ drawBitmap (now (bytes .entry)) rec (g .0) width height len (placeAt start stride scale) ⌝ }
 {
-    if !record_fits(bytes.len(), rec) {
-        return Drawn::Refused(Refusal {
-            number: 6,
-            place: 0,
-        });
+    let permit = bitmap_ready(bytes, rec, g, width, height, start, stride, scale);
+    match permit {
+        Permit::Given => shown_at(
+            bytes,
+            rec.bitmaps,
+            g,
+            width as u16,
+            height as u16,
+            len,
+            start,
+            stride as u16,
+            scale as u8,
+        ),
+        Permit::Refused(r) => Drawn::Refused(r),
     }
-    if !(ok_place(start, stride, scale) & ok_pair(width, height)) {
-        return Drawn::Refused(Refusal {
-            number: 15,
-            place: 0,
-        });
-    }
-    if rec.bitmaps.count <= g.0 as u32 {
-        return Drawn::Refused(Refusal {
-            number: 12,
-            place: 0,
-        });
-    }
-    shown_at(
-        bytes,
-        rec.bitmaps,
-        g,
-        width as u16,
-        height as u16,
-        len,
-        start,
-        stride as u16,
-        scale as u8,
-    )
 }

@@ -4,6 +4,7 @@ mod check;
 mod past;
 
 pub use check::bitmap_check;
+pub use check::bitmap_ready;
 pub use check::ok_pair;
 pub use check::ok_place;
 pub use check::shown_at;

@@ -1,5 +1,6 @@
 // 16: whether a pixel to colour lies beyond the buffer. Places here count from where the glyph is drawn,
 // and `room` is how many pixels the buffer has from there on.
+use bitmaps::bit_of;
 use bitmaps::offset_of;
 use bitmaps::row_byte;
 use bitmaps::row_stride;
@@ -8,6 +9,7 @@ use tables::BitmapData;
 ghost use mathlib.Core.Path.{_≡_};
 ghost use Prim.Native.Nat.{_-_, _≤_};
 ghost use lib.Dec.{leb};
+ghost use Rattle.bitmaps.specs.Place.{placeAt};
 ghost use Rattle.bitmaps.specs.Rows.{bitAt};
 ghost use Rattle.bitmaps.specs.Dots.{rowDot};
 ghost use Rattle.bitmaps.specs.Picture.{bitsOf, pixelPast};
@@ -16,9 +18,7 @@ ghost use Rattle.bitmaps.specs.Picture.{bitsOf, pixelPast};
 fn bit_at(s: &[u8], b: BitmapData, row: usize, c: usize) -> bool
     ensures { λ r. ⌜ r ≡ bitAt (bitsOf (now (s .entry)) b) row c ⌝ }
 {
-    let byte = row_byte(s, b, row, c / 8);
-    let k = 7 - c % 8;
-    (byte >> k) % 2 == 1
+    bit_of(row_byte(s, b, row, c / 8), c % 8)
 }
 
 // Whether a set bit of that row, drawn at `at`, has a pixel past the room. Bits are looked at only where
@@ -34,7 +34,7 @@ fn row_past(
     scale: u8,
 ) -> bool
     requires { ⌜ (1 ≤ scale) × (at ≤ 1152921504606846976) ⌝ }
-    ensures { λ r. ⌜ r ≡ rowDot (bitAt (bitsOf (now (s .entry)) b) row) at stride scale columns (λ j. leb room j) ⌝ }
+    ensures { λ r. ⌜ r ≡ rowDot (bitAt (bitsOf (now (s .entry)) b) row) (placeAt at stride scale) columns (λ j. leb room j) ⌝ }
 {
     let side = scale as usize;
     let down = (side - 1) * stride as usize;
@@ -65,7 +65,7 @@ fn rows_past(
     scale: u8,
 ) -> bool
     requires { ⌜ 1 ≤ scale ⌝ }
-    ensures { λ r. ⌜ r ≡ pixelPast (now (s .entry)) b (g .0) width columns 0 stride scale n room ⌝ }
+    ensures { λ r. ⌜ r ≡ pixelPast (now (s .entry)) b (g .0) width columns (placeAt 0 stride scale) n room ⌝ }
 {
     let first = offset_of(s, b, g) as usize;
     let step = row_stride(width, b.pad) as usize;
@@ -112,7 +112,7 @@ pub(crate) fn pixel_past(
     stride: u16,
     scale: u8,
 ) -> bool
-    ensures { λ r. ⌜ r ≡ pixelPast (now (s .entry)) b (g .0) width columns p stride scale n len ⌝ }
+    ensures { λ r. ⌜ r ≡ pixelPast (now (s .entry)) b (g .0) width columns (placeAt p stride scale) n len ⌝ }
 {
     if n == 0 {
         return false;

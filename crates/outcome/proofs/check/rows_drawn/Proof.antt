@@ -1,74 +1,55 @@
-use Prim.Native.Nat.{_+_, _/_}
-use mathlib.Core.Path.{sym}
+use Prim.Native.Nat.{ℕ, _+_, _-_, _*_, _/_, _≤_, _<_, _^_}
+use mathlib.Core.Path.{_≡_, sym}
 use native.Mathlib.Nat.{div-mul-le-self, div-le-self}
 use native.Mathlib.Omega.{arith}
+use mir.Syntax.{w64}
+use mir.Val.{Fits}
+use Rattle.bitmaps.specs.Place.{placeAt}
+use Rattle.bitmaps.specs.Cut.{drawnRows}
 use Rattle.bitmaps.proofs.CutRule.{drawn-room, drawn-no-stride, drawn-no-scale}
 use Rattle.outcome.proofs.Sizes.{within}
 use borrow.Author.Needs.{needs}
 use Rattle.outcome.proofs.check.rows_drawn.Statement.{statement}
 use Rattle.outcome.proofs.check.rows_drawn.Tie as tie
 
--- src/check.rt:27:9
-returns : tie.Need-returns
-returns c = sym (drawn-no-stride (c .before .args .len) (c .before .args .p) (c .before .args .stride) (c .before .args .scale) (c .before .args .height) (c .if1 .taken))
+-- lines or blocks of no pixels; room for one group more than the rows; else as many as whole groups hold
 
--- src/check.rt:30:9
-returns-2 : tie.Need-returns-2
-returns-2 c = sym (drawn-no-scale (c .before .before .args .len) (c .before .before .args .p) (c .before .before .args .stride) (c .before .before .args .scale) (c .before .before .args .height) (c .if2 .taken))
+module _ (len p stride scale height : ℕ) where
+  no-stride : stride ≡ 0 → 0 ≡ drawnRows len (placeAt p stride scale) height
+  no-stride e = sym (drawn-no-stride len (placeAt p stride scale) height e)
 
--- src/check.rt:34:9
-room-from-requires : tie.Need-room-from-requires
-room-from-requires c κs = search needs
+  no-scale : scale ≡ 0 → 0 ≡ drawnRows len (placeAt p stride scale) height
+  no-scale e = sym (drawn-no-scale len (placeAt p stride scale) height e)
 
--- src/check.rt:36:9
-add-if3 : tie.Need-add-if3
-add-if3 c = search needs
+  room-needed : height < 2 ^ 16 → scale < 2 ^ 8 → stride < 2 ^ 16 → Fits w64 ((height + scale) * stride)
+  room-needed h k l = omega (arith, within (height + scale) 65790 stride 65535 (omega arith) (omega arith))
 
--- src/check.rt:36:8
-mul-if3 : tie.Need-mul-if3
-mul-if3 c = omega (arith, within (c .before .before .before .args .height + c .before .before .before .args .scale) 65790 (c .before .before .before .args .stride) 65535 (omega arith) (omega arith))
+  module _ (room : ℕ) (room-is : room ≡ len - p) (lines : stride ≡ 0 → ⊥) (blocks : scale ≡ 0 → ⊥) where
+    room-to-spare : (height + scale) * stride ≤ room → height ≡ drawnRows len (placeAt p stride scale) height
+    room-to-spare h = sym (drawn-room len (placeAt p stride scale) height (omega arith) (omega arith) (rw (← room-is) h))
 
--- src/check.rt:37:9
-returns-3 : tie.Need-returns-3
-returns-3 c = sym (drawn-room (c .before .before .before .before .args .len) (c .before .before .before .before .args .p) (c .before .before .before .before .args .stride) (c .before .before .before .before .args .scale) (c .before .before .before .before .args .height) (omega arith) (omega arith) (rw (← c .before .room-from .ensures) (c .if3 .taken)))
+    whole-fits : room < 2 ^ 64 → Fits w64 (room / stride / scale * scale)
+    whole-fits h = omega (arith, div-mul-le-self (room / stride) scale, div-le-self room stride)
 
--- src/check.rt:39:17
-div-whole : tie.Need-div-whole
-div-whole c = search needs
+    all-rows : height ≤ room / stride / scale * scale → height ≡ drawnRows len (placeAt p stride scale) height
+    all-rows h = rw (← room-is) (omega arith)
 
--- src/check.rt:39:17
-div-whole-2 : tie.Need-div-whole-2
-div-whole-2 c = search needs
-
--- src/check.rt:39:17
-mul-whole : tie.Need-mul-whole
-mul-whole c = omega (arith, div-mul-le-self (c .before .room-from .result / c .before .before .before .before .args .stride) (c .before .before .before .before .args .scale), div-le-self (c .before .room-from .result) (c .before .before .before .before .args .stride))
-
--- src/check.rt:41:9
-returns-4 : tie.Need-returns-4
-returns-4 c = rw (← c .before .before .room-from .ensures) (omega (arith, c .if4 .taken))
-
--- src/check.rt:43:5
-cast-result : tie.Need-cast-result
-cast-result c = search needs
-
--- src/check.rt:23:1
-returns-5 : tie.Need-returns-5
-returns-5 c = rw (← c .before .before .room-from .ensures) (omega (arith, c .if4 .left))
+    some-rows : room / stride / scale * scale < height → room / stride / scale * scale ≡ drawnRows len (placeAt p stride scale) height
+    some-rows h = rw (← room-is) (omega arith)
 
 pub rows-drawn-spec : {M : Type 1} → statement M
 rows-drawn-spec =
     tie.close
     (tie.spec
-    returns
-    returns-2
-    room-from-requires
-    add-if3
-    mul-if3
-    returns-3
-    div-whole
-    div-whole-2
-    mul-whole
-    returns-4
-    cast-result
-    returns-5)
+    (λ c. search no-stride)  -- returns
+    (λ c. search no-scale)  -- returns-2
+    (λ c κs. search needs)  -- room-from-requires
+    (λ c. search needs)  -- add-if3
+    (λ c. search room-needed)  -- mul-if3
+    (λ c. search room-to-spare)  -- returns-3
+    (λ c. search needs)  -- div-whole
+    (λ c. search needs)  -- div-whole-2
+    (λ c. search whole-fits)  -- mul-whole
+    (λ c. search all-rows)  -- returns-4
+    (λ c. search needs)  -- cast-result
+    (λ c. search some-rows))  -- returns-5

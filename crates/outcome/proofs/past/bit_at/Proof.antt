@@ -1,29 +1,23 @@
-use mathlib.Core.Path.{refl}
-use Rattle.bitmaps.specs.Rows.{column, bitAt}
+use Prim.Native.Nat.{ℕ, _/_, _%_}
+use mathlib.Core.Path.{_≡_}
+use mathlib.Core.Bool.{Bool}
+use mathlib.Core.List.{List}
+use Rattle.tables.specs.declared.BitmapData.{BitmapData}
+use Rattle.bitmaps.specs.Rows.{rowByte, column, bitAt}
+use Rattle.bitmaps.specs.Picture.{bitsOf}
 use borrow.Author.Needs.{needs}
 use Rattle.outcome.proofs.past.bit_at.Statement.{statement}
 use Rattle.outcome.proofs.past.bit_at.Tie as tie
 
--- src/past.rt:19:9
-row-byte-requires : tie.Need-row-byte-requires
-row-byte-requires c κs = search needs
-
--- src/past.rt:20:13
-sub-k : tie.Need-sub-k
-sub-k c = search needs
-
--- src/past.rt:21:14
-cast-result : tie.Need-cast-result
-cast-result c = search needs
-
--- src/past.rt:21:6
-shr-result : tie.Need-shr-result
-shr-result c = search needs
-
--- src/past.rt:16:1
-returns : tie.Need-returns
-unfolding bitAt column
-returns c = rw (← c .row-byte .ensures) refl
+bit-of-byte : (s : List ℕ) (b : BitmapData) (row c byte : ℕ) (bit : Bool) → byte ≡ rowByte (bitsOf s b) row (c / 8) → bit ≡ column byte (c % 8)
+    → bit ≡ bitAt (bitsOf s b) row c
+unfolding bitAt
+bit-of-byte s b row c byte bit byte-is is = rw (← byte-is) is
 
 pub bit-at-spec : {M : Type 1} → statement M
-bit-at-spec = tie.close (tie.spec row-byte-requires sub-k cast-result shr-result returns)
+bit-at-spec =
+    tie.close
+    (tie.spec
+    (λ c κs. search needs)  -- row-byte-requires
+    (λ c κs. search needs)  -- bit-of-requires
+    (λ c. search bit-of-byte))  -- returns

@@ -1,0 +1,34 @@
+-- The pixels and rows that drawing and unpacking take one after the other, as the contracts of their inner functions name them.
+use Prim.Native.Nat.{ℕ, _+_, _*_, _≤_, _<_}
+use mathlib.Core.Bool.{Bool}
+use mathlib.Core.List.{List}
+use lib.Dec.{eqb, leb}
+use lib.ListN.{length}
+use Rattle.bitmaps.specs.Place.{Place}
+use Rattle.bitmaps.specs.Rows.{bitAt}
+use Rattle.bitmaps.specs.Dots.{blockDot, rowDot, someDot}
+
+-- i is a pixel of the set bit whose block begins there, of one row of bits, of the first n rows
+unfoldable pub inBlock : Place → ℕ → Bool
+inBlock at i = blockDot at (λ j. eqb i j)
+
+unfoldable pub inRow : (ℕ → Bool) → Place → ℕ → ℕ → Bool
+inRow bit at width i = rowDot bit at width (λ j. eqb i j)
+
+unfoldable pub inRows : (ℕ → ℕ → Bool) → Place → ℕ → ℕ → ℕ → Bool
+inRows bit at width n i = someDot bit at width n (λ j. eqb i j)
+
+-- a pixel of them lies past a buffer of `len` pixels
+unfoldable pub rowPast : (ℕ → Bool) → Place → ℕ → ℕ → Bool
+rowPast bit at width len = rowDot bit at width (λ j. leb len j)
+
+unfoldable pub rowsPast : (ℕ → ℕ → Bool) → Place → ℕ → ℕ → ℕ → Bool
+rowsPast bit at width n len = someDot bit at width n (λ j. leb len j)
+
+-- the bits of the rows of which row r begins at byte first + r × step
+unfoldable pub rowBits : List ℕ → ℕ → ℕ → ℕ → ℕ → Bool
+rowBits s first step r = bitAt s (first + r * step)
+
+-- the first `count` bytes of each of the n rows lie in these bytes
+pub record RowsIn (s : List ℕ) (first step count n : ℕ) : Type 0 where
+  pub there : (r : ℕ) → r < n → first + r * step + count ≤ length s
