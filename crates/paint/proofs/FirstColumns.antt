@@ -8,6 +8,7 @@ use borrow.Author.Tests.{lt-ltb}
 use Rattle.bitmaps.specs.Paint.{some}
 use Rattle.bitmaps.specs.Rows.{column}
 use Rattle.bitmaps.proofs.Searching.{some-false}
+use Rattle.paint.specs.Ink.{FirstColumns}
 
 beq-same : (a b : Bool) → not (Bool·beq a b) ≡ false → a ≡ b
 beq-same true true e = refl
@@ -26,15 +27,18 @@ unfolding some differs column
 none-differs = refl
 
 -- shifted by 8 - m, a byte keeps its first m columns
-pub first-kept : (b m : ℕ) → b < 256 → 1 ≤ m → m < 8 → (k : ℕ) → k < 8 → column (b / 2 ^ (8 - m) * 2 ^ (8 - m) % 256) k ≡ (ltb k m && column b k)
+pub first-kept : (b m : ℕ) → m < 8 → b < 256 → 1 ≤ m → FirstColumns b m (b / 2 ^ (8 - m) * 2 ^ (8 - m) % 256)
 unfolding differs
-first-kept b m h l u k v =
-    let n = 8 - m in
-    let shifts = some-false 256 (λ b. some 8 (λ n. some 8 (λ k. differs b n k))) none-differs b h in
-    let columns = some-false 8 (λ n. some 8 (λ k. differs b n k)) shifts n (omega arith) in
-    let back : 8 - n ≡ m = omega arith in
-    rw back at (beq-same (column (kept b n) k) (ltb k (8 - n) && column b k) (some-false 8 (λ k. differs b n k) columns k v))
+first-kept b m u h l = record {
+  keeps =
+      λ k v.
+      let n = 8 - m in
+      let shifts = some-false 256 (λ b. some 8 (λ n. some 8 (λ k. differs b n k))) none-differs b h in
+      let columns = some-false 8 (λ n. some 8 (λ k. differs b n k)) shifts n (omega arith) in
+      let back : 8 - n ≡ m = omega arith in
+      rw back at (beq-same (column (kept b n) k) (ltb k (8 - n) && column b k) (some-false 8 (λ k. differs b n k) columns k v));
+}
 
 -- a byte has no column past the eighth
-pub all-kept : (b m : ℕ) → 8 ≤ m → (k : ℕ) → k < 8 → column b k ≡ (ltb k m && column b k)
-all-kept b m h k v = sym (ap (λ (t : Bool). t && column b k) (lt-ltb k m (omega arith)))
+pub all-kept : (b m : ℕ) → 8 ≤ m → FirstColumns b m b
+all-kept b m h = record { keeps = λ k v. sym (ap (λ (t : Bool). t && column b k) (lt-ltb k m (omega arith))) }

@@ -1,83 +1,99 @@
--- A row byte by byte: its first c columns and the byte at column c, without the columns past the width, are its first c + 8 columns.
-use Prim.Native.Nat.{ℕ, _+_, _*_, _-_, _/_, _%_, _<_, min}
-use mathlib.Core.Path.{_≡_, sym, ap, _∙_}
-use mathlib.Core.Bool.{Bool, true, false, _&&_, _||_, and-assoc}
+-- A row byte by byte: its first columns and those of its next byte, cut to the columns below the width, are its first columns up to eight more.
+use Prim.Native.Nat.{ℕ, _+_, _*_, _-_, _≤_, _<_, _^_, min}
+use mathlib.Core.Path.{_≡_, refl, ap, _∙_}
+use mathlib.Core.Bool.{Bool, false, _&&_, _||_, and-assoc}
 use mathlib.Core.List.{List}
-use mathlib.Core.Logic.{⊎-elim}
 use native.Mathlib.Omega.{arith}
 use native.Mathlib.Nat.{add-mul}
-use lib.Dec.{eqb, ltb}
-use borrow.Author.Tests.{lt-ltb, ltb-true}
-use Rattle.reads.proofs.Tests.{never, split, both}
-use Rattle.bitmaps.specs.Paint.{some, painted}
-use Rattle.bitmaps.specs.Rows.{rowByte, column, bitAt}
+use lib.Dec.{eqb, leb, ltb}
+use lib.ListN.{length}
+use mir.Syntax.{w64}
+use mir.Val.{Fits}
+use Rattle.bitmaps.specs.Place.{placeAt}
+use Rattle.bitmaps.specs.Paint.{painted}
+use Rattle.bitmaps.specs.Rows.{rowBytes, rowByte, column, bitAt}
 use Rattle.bitmaps.specs.Dots.{blockDot, rowDot}
-use Rattle.bitmaps.proofs.Searching.{or-first, or-second, or-cases, and-true, same-test, below-or-not, some-true, some-witness}
-use Rattle.bitmaps.proofs.Painting.{painted-same, painted-or}
+use Rattle.bitmaps.specs.Ink.{inRow, rowPast}
+use Rattle.bitmaps.proofs.Pieces.{eight-more, eight-none}
+use Rattle.bitmaps.proofs.Painting.{length-painted, painted-in-turn}
+use Rattle.bitmaps.proofs.RowBits.{bit-of-byte}
+use Rattle.outcome.proofs.Sizes.{within}
+use Rattle.paint.specs.Ink.{FirstColumns}
+use Rattle.paint.proofs.SetBlock.{no-column}
 
--- a search up to a width, eight numbers farther
-module _ (f g : ℕ → Bool) (c width : ℕ) (h : c < width) (same : (k : ℕ) → k < 8 → g k ≡ (ltb k (width - c) && f (c + k))) where
-  -- what the eight find lies below the width
-  found : some 8 g ≡ true → (k : ℕ) × (k < min (c + 8) width) × (f k ≡ true)
-  found e =
-      let (k, l, t) = some-witness 8 g e in
-      let (inside, passes) = both (ltb k (width - c)) (f (c + k)) (sym (same k l) ∙ t) in
-      (c + k, omega (arith, ltb-true k (width - c) inside), passes)
+-- the columns of a row's first j bytes are coloured
+pub record Byted (row : List ℕ) (at stride scale width colour : ℕ) (old buf : List ℕ) (j : ℕ) : Type 0 where
+  pub inside : j ≤ length row
+  pub same : length buf ≡ length old
+  pub is : buf ≡ painted (inRow (bitAt row 0) (placeAt at stride scale) (min (8 * j) width)) colour old
 
-  eight-more : some (min (c + 8) width) f ≡ some c f || some 8 g
-  eight-more =
-      let end = min (c + 8) width in
-      same-test (some end f) (some c f || some 8 g)
-      (λ e. let (k, l, t) = some-witness end f e in
-      below-or-not k c (λ u. or-first (some c f) (some 8 g) (some-true c f k u t))
-      (λ u. let back : c + (k - c) ≡ k = omega arith in
-      let inside = lt-ltb (k - c) (width - c) (omega arith) in
-      or-second (some c f) (some 8 g)
-      (some-true 8 g (k - c) (omega arith) (same (k - c) (omega arith) ∙ and-true (ltb (k - c) (width - c)) (f (c + (k - c))) inside (ap f back ∙ t)))))
-      (λ e. ⊎-elim (λ u. let (k, l, t) = some-witness c f u in some-true end f k (omega arith) t)
-      (λ u. let (k, l, t) = found u in some-true end f k l t)
-      (or-cases (some c f) (some 8 g) e))
+module _ (row : List ℕ) (at stride scale width : ℕ) where
+  module _ (colour : ℕ) (old : List ℕ) where
+    pub no-byte : Byted row at stride scale width colour old old 0
+    no-byte =
+        let none : min (8 * 0) width ≡ 0 = omega arith in
+        record { inside = omega arith; same = refl; is = rw none (no-column (bitAt row 0) at stride scale width colour old .is) }
 
-  eight-none : some width f ≡ false → some 8 g ≡ false
-  eight-none e = split (some 8 g) (λ u. let (k, l, t) = found u in never (sym e ∙ some-true width f k (omega arith) t)) (λ u. u)
+    pub all-bytes : (buf : List ℕ) (j : ℕ) → Byted row at stride scale width colour old buf j → length row ≡ rowBytes width → length row ≤ j
+        → buf ≡ painted (inRow (bitAt row 0) (placeAt at stride scale) width) colour old
+    all-bytes buf j so-far whole h = let e : min (8 * j) width ≡ width = omega arith in rw e at (so-far .is)
 
--- `byte` has the columns of the row's byte at column c, but none past the width
-module _ (s : List ℕ) (row at stride scale width c byte : ℕ) (whole : c % 8 ≡ 0) (h : c < width)
-    (cut : (k : ℕ) → k < 8 → column byte k ≡ (ltb k (width - c) && column (rowByte s row (c / 8)) k)) where
-  -- the test of column k from c on, in the row and in the byte
-  in-byte : (test : ℕ → Bool) (k : ℕ) → k < 8
-      → (column byte k && blockDot (at + c * scale + k * scale) stride scale test)
-      ≡ (ltb k (width - c) && (bitAt s row (c + k) && blockDot (at + (c + k) * scale) stride scale test))
-  unfolding bitAt
-  in-byte test k l =
-      let place : at + c * scale + k * scale ≡ at + (c + k) * scale = omega (arith, add-mul c k scale) in
-      let byteOf : (c + k) / 8 ≡ c / 8 = omega arith in
-      let columnOf : (c + k) % 8 ≡ k = omega arith in
-      rw (cut k l, place, byteOf, columnOf) (and-assoc (ltb k (width - c)) (column (rowByte s row (c / 8)) k) (blockDot (at + (c + k) * scale) stride scale test))
+  -- `cut` has the columns of byte j, but none past the width
+  module _ (j shown cut : ℕ) (h : j < length row) (whole : length row ≡ rowBytes width) (shown-is : shown ≡ rowByte row 0 j)
+      (cut-is : FirstColumns shown (width - 8 * j) cut) where
+    before-end : 8 * j < width
+    before-end = omega arith
 
-  pub byte-more : (test : ℕ → Bool)
-      → rowDot (bitAt s row) at stride scale (min (c + 8) width) test
-      ≡ rowDot (bitAt s row) at stride scale c test || rowDot (column byte) (at + c * scale) stride scale 8 test
-  unfolding rowDot
-  byte-more test =
-      eight-more (λ k. bitAt s row k && blockDot (at + k * scale) stride scale test)
-      (λ k. column byte k && blockDot (at + c * scale + k * scale) stride scale test) c width h (in-byte test)
+    -- the test of a column of the byte, and of the row
+    abbrev of-byte : (test : ℕ → Bool) → ℕ → Bool
+    of-byte test k = column cut k && blockDot (placeAt (at + 8 * j * scale + k * scale) stride scale) test
 
-  -- the byte passes no test that no pixel of the row passes
-  pub byte-none : (test : ℕ → Bool) → rowDot (bitAt s row) at stride scale width test ≡ false
-      → rowDot (column byte) (at + c * scale) stride scale 8 test ≡ false
-  unfolding rowDot
-  byte-none test =
-      eight-none (λ k. bitAt s row k && blockDot (at + k * scale) stride scale test)
-      (λ k. column byte k && blockDot (at + c * scale + k * scale) stride scale test) c width h (in-byte test)
+    abbrev of-row : (test : ℕ → Bool) → ℕ → Bool
+    of-row test k = bitAt row 0 k && blockDot (placeAt (at + k * scale) stride scale) test
 
-  -- a row coloured up to column c, and then the byte
-  pub byte-coloured : (colour : ℕ) (old buf new : List ℕ) → buf ≡ painted (λ i. rowDot (bitAt s row) at stride scale (min c width) (λ j. eqb i j)) colour old
-      → new ≡ painted (λ i. rowDot (column byte) (at + c * scale) stride scale 8 (λ j. eqb i j)) colour buf
-      → new ≡ painted (λ i. rowDot (bitAt s row) at stride scale (min (c + 8) width) (λ j. eqb i j)) colour old
-  byte-coloured colour old buf new before after =
-      let inRow : ℕ → Bool = λ i. rowDot (bitAt s row) at stride scale c (λ j. eqb i j) in
-      let inByte : ℕ → Bool = λ i. rowDot (column byte) (at + c * scale) stride scale 8 (λ j. eqb i j) in
-      let inside : min c width ≡ c = omega arith in
-      after ∙ ap (painted inByte colour) (rw inside at before) ∙ sym (painted-or inRow inByte colour old)
-      ∙ painted-same (λ i. inRow i || inByte i) (λ i. rowDot (bitAt s row) at stride scale (min (c + 8) width) (λ j. eqb i j)) colour old (λ i l. sym (byte-more (λ j. eqb i j)))
+    in-byte : (test : ℕ → Bool) (k : ℕ) → k < 8 → of-byte test k ≡ (ltb k (width - 8 * j) && of-row test (8 * j + k))
+    in-byte test k l =
+        let place : at + 8 * j * scale + k * scale ≡ at + (8 * j + k) * scale = omega (arith, add-mul (8 * j) k scale) in
+        rw (cut-is .keeps k l, place, shown-is, bit-of-byte row 0 j k l)
+        (and-assoc (ltb k (width - 8 * j)) (column (rowByte row 0 j) k) (blockDot (placeAt (at + (8 * j + k) * scale) stride scale) test))
+
+    module _ (colour : ℕ) (old buf : List ℕ) (so-far : Byted row at stride scale width colour old buf j) where
+      -- where no pixel of the row lies past the buffer, none of the byte does
+      pub byte-room : rowPast (bitAt row 0) (placeAt at stride scale) width (length old) ≡ false
+          → rowPast (column cut) (placeAt (at + 8 * j * scale) stride scale) 8 (length buf) ≡ false
+      unfolding rowPast rowDot
+      byte-room e =
+          let past : ℕ → Bool = λ k. leb (length old) k in
+          rw (so-far .same) (eight-none (of-row past) (of-byte past) (8 * j) width before-end (in-byte past) e)
+
+      one-more : (i : ℕ) → inRow (bitAt row 0) (placeAt at stride scale) (min (8 * (j + 1)) width) i
+          ≡ inRow (bitAt row 0) (placeAt at stride scale) (min (8 * j) width) i || inRow (column cut) (placeAt (at + 8 * j * scale) stride scale) 8 i
+      unfolding inRow rowDot
+      one-more i =
+          let here : min (8 * j) width ≡ 8 * j = omega (arith, before-end) in
+          let next : 8 * (j + 1) ≡ 8 * j + 8 = omega arith in
+          let test : ℕ → Bool = λ k. eqb i k in
+          rw (here, next) (eight-more (of-row test) (of-byte test) (8 * j) width before-end (in-byte test))
+
+      pub byte-more : (new : List ℕ) → new ≡ painted (inRow (column cut) (placeAt (at + 8 * j * scale) stride scale) 8) colour buf
+          → Byted row at stride scale width colour old new (j + 1)
+      byte-more new e =
+          let inFirst : ℕ → Bool = inRow (bitAt row 0) (placeAt at stride scale) (min (8 * j) width) in
+          let inByte : ℕ → Bool = inRow (column cut) (placeAt (at + 8 * j * scale) stride scale) 8 in
+          let inMore : ℕ → Bool = inRow (bitAt row 0) (placeAt at stride scale) (min (8 * (j + 1)) width) in
+          record {
+            inside = omega arith;
+            same = ap length e ∙ length-painted inByte colour buf ∙ so-far .same;
+            is = painted-in-turn colour inFirst inByte inMore old buf new one-more (so-far .is) e;
+          }
+
+-- a byte's first column lies near
+module _ (row : List ℕ) (width j scale : ℕ) (h : j < length row) (whole : length row ≡ rowBytes width) (w : width < 2 ^ 16) (few : scale < 2 ^ 8) where
+  byte-small : 8 * j * scale ≤ 65535 * 255
+  byte-small = within (8 * j) 65535 scale 255 (omega arith) (omega arith)
+
+  pub byte-fits : Fits w64 (8 * j * scale)
+  byte-fits = omega (arith, byte-small)
+
+  pub byte-place-fits : (at : ℕ) → at ≤ 1152921504606846976 → Fits w64 (at + 8 * j * scale)
+  byte-place-fits at l = omega (arith, byte-small)

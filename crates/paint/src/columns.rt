@@ -1,18 +1,20 @@
 // The set bits of one byte of a row.
 use crate::block::block;
+use bitmaps::bit_of;
 ghost use mathlib.Core.Path.{_≡_};
-ghost use mathlib.Core.Bool.{false, _&&_};
-ghost use Prim.Native.Nat.{ℕ, _≤_, _<_};
-ghost use lib.Dec.{eqb, leb, ltb};
+ghost use mathlib.Core.Bool.{false};
+ghost use Prim.Native.Nat.{_≤_};
 ghost use lib.ListN.{length};
+ghost use Rattle.bitmaps.specs.Place.{placeAt};
 ghost use Rattle.bitmaps.specs.Paint.{painted};
 ghost use Rattle.bitmaps.specs.Rows.{column};
-ghost use Rattle.bitmaps.specs.Dots.{rowDot};
+ghost use Rattle.bitmaps.specs.Ink.{inRow, rowPast};
+ghost use Rattle.paint.specs.Ink.{FirstColumns};
 
 // A byte with its first m columns, and no other set.
 pub(crate) fn first_columns(byte: u8, m: usize) -> u8
     requires { ⌜ 1 ≤ m ⌝ }
-    ensures { λ r. ⌜ ((k : ℕ) → k < 8 → column r k ≡ (ltb k m && column byte k)) ⌝ }
+    ensures { λ r. ⌜ FirstColumns byte m r ⌝ }
 {
     if m < 8 {
         let k = 8 - m as u32;
@@ -31,12 +33,12 @@ pub(crate) fn byte_columns(
     colour: u32,
 )
     requires { ⌜ 1 ≤ scale ⌝ }
-    requires { ⌜ rowDot (column byte) at stride scale 8 (λ j. leb (length (now buf)) j) ≡ false ⌝ }
-    ensures { λ _. ⌜ now (buf .exit) ≡ painted (λ i. rowDot (column byte) at stride scale 8 (λ j. eqb i j)) colour (now (buf .entry)) ⌝ }
+    requires { ⌜ rowPast (column byte) (placeAt at stride scale) 8 (length (now buf)) ≡ false ⌝ }
+    ensures { λ _. ⌜ now (buf .exit) ≡ painted (inRow (column byte) (placeAt at stride scale) 8) colour (now (buf .entry)) ⌝ }
 {
     let mut k = 0;
     while k < 8 {
-        if (byte >> (7 - k)) % 2 == 1 {
+        if bit_of(byte, k) {
             block(&mut *buf, at + k * scale as usize, stride, scale, colour);
         }
         k += 1;

@@ -3,17 +3,16 @@ use crate::rows::rows_ink;
 use bitmaps::Drawn;
 use bitmaps::offset_of;
 use bitmaps::row_stride;
-use outcome::ok_pair;
-use outcome::ok_place;
+use outcome::bitmap_ready;
 use outcome::shown_at;
 use reads::GlyphIndex;
-use reads::Refusal;
 use tables::BitmapData;
+use tables::Permit;
 use tables::Record;
-use tables::record_fits;
 ghost use mathlib.Core.Path.{_≡_};
 ghost use mathlib.Core.Bool.{false};
 ghost use lib.ListN.{length};
+ghost use Rattle.bitmaps.specs.Place.{placeAt};
 ghost use Rattle.bitmaps.specs.Paint.{painted};
 ghost use Rattle.bitmaps.specs.Picture.{rowsShort, pixelPast};
 ghost use Rattle.bitmaps.specs.Draw.{shownAt, inGlyph, shownLeaves, drawBitmap};
@@ -32,8 +31,8 @@ fn rows_from(
     colour: u32,
 )
     requires { ⌜ rowsShort (now s) b (g .0) width n ≡ false ⌝ }
-    requires { ⌜ pixelPast (now s) b (g .0) width width p stride scale n (length (now buf)) ≡ false ⌝ }
-    ensures { λ _. ⌜ now (buf .exit) ≡ painted (inGlyph (now (s .entry)) b (g .0) width p stride scale n) colour (now (buf .entry)) ⌝ }
+    requires { ⌜ pixelPast (now s) b (g .0) width width (placeAt p stride scale) n (length (now buf)) ≡ false ⌝ }
+    ensures { λ _. ⌜ now (buf .exit) ≡ painted (inGlyph (now (s .entry)) b (g .0) width (placeAt p stride scale) n) colour (now (buf .entry)) ⌝ }
 {
     if n == 0 {
         return;
@@ -75,8 +74,8 @@ pub fn show_at(
     scale: u8,
     colour: u32,
 ) -> Drawn
-    ensures { λ r. ⌜ r ≡ shownAt (now (s .entry)) b (g .0) width height (length (now (buf .entry))) p stride scale ⌝ }
-    ensures { λ r. ⌜ now (buf .exit) ≡ shownLeaves (now (s .entry)) b (g .0) width p stride scale colour r (now (buf .entry)) ⌝ }
+    ensures { λ r. ⌜ r ≡ shownAt (now (s .entry)) b (g .0) width height (length (now (buf .entry))) (placeAt p stride scale) ⌝ }
+    ensures { λ r. ⌜ now (buf .exit) ≡ shownLeaves (now (s .entry)) b (g .0) width (placeAt p stride scale) colour r (now (buf .entry)) ⌝ }
 {
     let drawn = shown_at(s, b, g, width, height, buf.len(), p, stride, scale);
     match drawn {
@@ -117,37 +116,23 @@ pub fn draw_bitmap(
     scale: usize,
     colour: u32,
 ) -> Drawn
-    ensures { λ r. ⌜ r ≡ drawBitmap (now (bytes .entry)) rec (g .0) width height (length (now (buf .entry))) start stride scale ⌝ }
-    ensures { λ r. ⌜ now (buf .exit) ≡ shownLeaves (now (bytes .entry)) (rec .bitmaps) (g .0) width start stride scale colour r (now (buf .entry)) ⌝ }
+    ensures { λ r. ⌜ r ≡ drawBitmap (now (bytes .entry)) rec (g .0) width height (length (now (buf .entry))) (placeAt start stride scale) ⌝ }
+    ensures { λ r. ⌜ now (buf .exit) ≡ shownLeaves (now (bytes .entry)) (rec .bitmaps) (g .0) width (placeAt start stride scale) colour r (now (buf .entry)) ⌝ }
 {
-    if !record_fits(bytes.len(), rec) {
-        return Drawn::Refused(Refusal {
-            number: 6,
-            place: 0,
-        });
+    let permit = bitmap_ready(bytes, rec, g, width, height, start, stride, scale);
+    match permit {
+        Permit::Given => show_at(
+            bytes,
+            rec.bitmaps,
+            g,
+            width as u16,
+            height as u16,
+            &mut *buf,
+            start,
+            stride as u16,
+            scale as u8,
+            colour,
+        ),
+        Permit::Refused(r) => Drawn::Refused(r),
     }
-    if !(ok_place(start, stride, scale) & ok_pair(width, height)) {
-        return Drawn::Refused(Refusal {
-            number: 15,
-            place: 0,
-        });
-    }
-    if rec.bitmaps.count <= g.0 as u32 {
-        return Drawn::Refused(Refusal {
-            number: 12,
-            place: 0,
-        });
-    }
-    show_at(
-        bytes,
-        rec.bitmaps,
-        g,
-        width as u16,
-        height as u16,
-        &mut *buf,
-        start,
-        stride as u16,
-        scale as u8,
-        colour,
-    )
 }

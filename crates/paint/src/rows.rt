@@ -1,36 +1,29 @@
-// A glyph's rows. The buffer here begins where the glyph is drawn, and a row is the place of its first
-// byte in the file.
+// A glyph's rows. The buffer here begins where the glyph is drawn.
 use crate::columns::byte_columns;
 use crate::columns::first_columns;
+use bitmaps::row_bytes;
+use bitmaps::shown_byte;
 ghost use mathlib.Core.Path.{_≡_};
 ghost use mathlib.Core.Bool.{false};
-ghost use Prim.Native.Nat.{ℕ, _+_, _*_, _/_, _≤_, _<_};
-ghost use lib.Dec.{eqb, leb};
+ghost use Prim.Native.Nat.{_≤_};
 ghost use lib.ListN.{length};
+ghost use Rattle.bitmaps.specs.Place.{placeAt};
 ghost use Rattle.bitmaps.specs.Paint.{painted};
-ghost use Rattle.bitmaps.specs.Rows.{bitAt};
-ghost use Rattle.bitmaps.specs.Dots.{rowDot, someDot};
+ghost use Rattle.bitmaps.specs.Rows.{rowBytes, bitAt};
+ghost use Rattle.bitmaps.specs.Ink.{inRow, inRows, rowPast, rowsPast, rowBits, RowsIn};
 
-// Colours one row at `at`, byte by byte. Any row's place is far below 2^60, so no sum leaves 64 bits.
-fn row_ink(
-    s: &[u8],
-    row: usize,
-    width: u16,
-    buf: &mut [u32],
-    at: usize,
-    stride: u16,
-    scale: u8,
-    colour: u32,
-)
-    requires { ⌜ (1 ≤ scale) × (at ≤ 1152921504606846976) ⌝ }
-    requires { ⌜ ((c : ℕ) → c < width → row + c / 8 < length (now s)) ⌝ }
-    requires { ⌜ rowDot (bitAt (now s) row) at stride scale width (λ j. leb (length (now buf)) j) ≡ false ⌝ }
-    ensures { λ _. ⌜ now (buf .exit) ≡ painted (λ i. rowDot (bitAt (now (s .entry)) row) at stride scale width (λ j. eqb i j)) colour (now (buf .entry)) ⌝ }
+// Colours one row, of which `row` are the bytes that hold columns, at `at`. Any row's place is far below 2^60, so
+// no sum leaves 64 bits.
+fn row_ink(row: &[u8], width: u16, buf: &mut [u32], at: usize, stride: u16, scale: u8, colour: u32)
+    requires { ⌜ (1 ≤ scale) × (at ≤ 1152921504606846976) × (length (now row) ≡ rowBytes width) ⌝ }
+    requires { ⌜ rowPast (bitAt (now row) 0) (placeAt at stride scale) width (length (now buf)) ≡ false ⌝ }
+    ensures { λ _. ⌜ now (buf .exit) ≡ painted (inRow (bitAt (now (row .entry)) 0) (placeAt at stride scale) width) colour (now (buf .entry)) ⌝ }
 {
     let columns = width as usize;
-    let mut c = 0;
-    while c < columns {
-        let byte = first_columns(s[row + c / 8], columns - c);
+    let mut j = 0;
+    while j < row.len() {
+        let c = 8 * j;
+        let byte = first_columns(shown_byte(row, j), columns - c);
         byte_columns(
             &mut *buf,
             byte,
@@ -39,11 +32,12 @@ fn row_ink(
             scale,
             colour,
         );
-        c += 8;
+        j += 1;
     }
 }
 
-// Colours the n rows of which row r begins at `first` + r × `step`.
+// Colours the n rows of which row r begins at byte `first` + r × `step` of the file. Each row is lent as its bytes
+// that hold columns, so that reading one of them takes no test.
 pub(crate) fn rows_ink(
     s: &[u8],
     first: usize,
@@ -55,16 +49,17 @@ pub(crate) fn rows_ink(
     scale: u8,
     colour: u32,
 )
-    requires { ⌜ (1 ≤ scale) × (1 ≤ width) ⌝ }
-    requires { ⌜ ((r c : ℕ) → r < n → c < width → first + r * step + c / 8 < length (now s)) ⌝ }
-    requires { ⌜ someDot (λ r. bitAt (now s) (first + r * step)) 0 stride scale width n (λ j. leb (length (now buf)) j) ≡ false ⌝ }
-    ensures { λ _. ⌜ now (buf .exit) ≡ painted (λ i. someDot (λ r. bitAt (now (s .entry)) (first + r * step)) 0 stride scale width n (λ j. eqb i j)) colour (now (buf .entry)) ⌝ }
+    requires { ⌜ (1 ≤ scale) × RowsIn (now s) first step (rowBytes width) n ⌝ }
+    requires { ⌜ rowsPast (rowBits (now s) first step) (placeAt 0 stride scale) width n (length (now buf)) ≡ false ⌝ }
+    ensures { λ _. ⌜ now (buf .exit) ≡ painted (inRows (rowBits (now (s .entry)) first step) (placeAt 0 stride scale) width n) colour (now (buf .entry)) ⌝ }
 {
+    let count = row_bytes(width) as usize;
     let mut r = 0;
     while r < n as usize {
+        let from = first + r * step as usize;
+        let end = from + count;
         row_ink(
-            s,
-            first + r * step as usize,
+            &s[from..end],
             width,
             &mut *buf,
             r * stride as usize * scale as usize,

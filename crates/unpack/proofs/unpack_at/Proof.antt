@@ -1,46 +1,36 @@
-use mathlib.Core.Path.{refl, sym, _∙_}
-use lib.ListN.{length}
+use Rattle.reads.proofs.Places.{known}
+use Prim.Native.Nat.{ℕ}
+use mathlib.Core.Path.{_≡_, sym, _∙_}
+use mathlib.Core.Bool.{false}
+use mathlib.Core.List.{List}
+use Rattle.tables.specs.declared.BitmapData.{BitmapData}
+use Rattle.bitmaps.specs.Place.{placeAt}
+use Rattle.bitmaps.specs.Picture.{rowsShort, pixelPast}
+use Rattle.bitmaps.specs.Unpack.{wholeColumns, unpackedAt}
+use Rattle.bitmaps.specs.declared.Unpacked.{Unpacked}
 use Rattle.outcome.proofs.Answered.{unpacked-rows}
 use borrow.Author.Needs.{needs}
 use Rattle.unpack.proofs.unpack_at.Statement.{statement}
 use Rattle.unpack.proofs.unpack_at.Tie as tie
 
--- src/lib.rt:112:9
-unpacked-at-requires : tie.Need-unpacked-at-requires
-unpacked-at-requires c κs = search needs
+module _ (s : List ℕ) (b : BitmapData) (g width height len p stride : ℕ) (unpacked : Unpacked) (is : unpacked ≡ unpackedAt s b g width height len p stride) where
+  rows-there : (n : ℕ) → unpacked ≡ Unpacked.Rows n → rowsShort s b g width n ≡ false
+  rows-there n e = unpacked-rows s b g width height len p stride n (sym is ∙ e) .1 .rows
 
--- src/lib.rt:114:24
-enum-known-unpacked : tie.Need-enum-known-unpacked
-enum-known-unpacked c = search needs
+  pixels-inside : (n : ℕ) → unpacked ≡ Unpacked.Rows n → pixelPast s b g width (wholeColumns width) (placeAt p stride 1) n len ≡ false
+  pixels-inside n e = unpacked-rows s b g width height len p stride n (sym is ∙ e) .1 .pixels
 
--- src/lib.rt:115:13
-unpack-from-requires : tie.Need-unpack-from-requires
-unpack-from-requires c κs = let d = unpacked-rows (c .before .before .before .before .before .before .before .args .s .now) (c .before .before .before .before .before .before .before .args .b) (c .before .before .before .before .before .before .before .args .g .0) (c .before .before .before .before .before .before .before .args .width) (c .before .before .before .before .before .before .before .args .height) (length (c .before .before .before .before .before .before .before .args .buf .now)) (c .before .before .before .before .before .before .before .args .p) (c .before .before .before .before .before .before .before .args .stride) _ (sym (c .before .before .before .before .unpacked-at .ensures) ∙ c .before .before .unpacked .given .1) .1 in (d .rows, d .pixels)
-
--- src/lib.rt:118:27
-enum-known-unpacked-2 : tie.Need-enum-known-unpacked-2
-enum-known-unpacked-2 c = search needs
-
--- src/lib.rt:99:1
-same-length : tie.Need-same-length
-same-length c = search needs
-
--- src/lib.rt:99:1
-returns : tie.Need-returns
-returns c = (sym (c .before .before .before .before .before .unpacked .given .1) ∙ c .before .before .before .before .before .before .before .unpacked-at .ensures, c .before .before .unpack-from .ensures)
-
--- src/lib.rt:99:1
-returns-2 : tie.Need-returns-2
-returns-2 c = (sym (c .before .unpacked2 .given .1) ∙ c .before .before .before .unpacked-at .ensures, refl)
+  answered : (r : Unpacked) → unpacked ≡ r → r ≡ unpackedAt s b g width height len p stride
+  answered r e = sym e ∙ is
 
 pub unpack-at-spec : {M : Type 1} → statement M
 unpack-at-spec =
     tie.close
     (tie.spec
-    unpacked-at-requires
-    enum-known-unpacked
-    unpack-from-requires
-    enum-known-unpacked-2
-    same-length
-    returns
-    returns-2)
+    (λ c κs. search needs)  -- unpacked-at-requires
+    (λ c. search needs)  -- enum-known-unpacked
+    (λ c κs. search (rows-there, pixels-inside, known tie.After-unpacked-at (search) .unpacked-at .ensures))  -- unpack-from-requires
+    (λ c. search needs)  -- enum-known-unpacked-2
+    (λ c. search needs)  -- same-length
+    (λ c. search answered)  -- returns
+    (λ c. search answered))  -- returns-2

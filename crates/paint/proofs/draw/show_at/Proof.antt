@@ -1,46 +1,38 @@
-use mathlib.Core.Path.{refl, sym, _∙_}
-use lib.ListN.{length}
+use Prim.Native.Nat.{ℕ}
+use mathlib.Core.Path.{_≡_, sym, _∙_}
+use mathlib.Core.Bool.{false}
+use mathlib.Core.List.{List}
+use Rattle.tables.specs.declared.BitmapData.{BitmapData}
+use Rattle.bitmaps.specs.Place.{placeAt}
+use Rattle.bitmaps.specs.Picture.{rowsShort, pixelPast}
+use Rattle.bitmaps.specs.Draw.{shownAt}
+use Rattle.bitmaps.specs.declared.Drawn.{Drawn}
+use Rattle.bitmaps.specs.declared.Rows.{Rows}
 use Rattle.outcome.proofs.Answered.{shown-rows}
+use Rattle.reads.proofs.Places.{known}
 use borrow.Author.Needs.{needs}
 use Rattle.paint.proofs.draw.show_at.Statement.{statement}
 use Rattle.paint.proofs.draw.show_at.Tie as tie
 
--- src/draw.rt:81:9
-shown-at-requires : tie.Need-shown-at-requires
-shown-at-requires c κs = search needs
+module _ (s : List ℕ) (b : BitmapData) (g width height len p stride scale : ℕ) (drawn : Drawn)
+    (drawn-is : drawn ≡ shownAt s b g width height len (placeAt p stride scale)) where
+  rows-there : (r : Rows) → drawn ≡ Drawn.Rows r → rowsShort s b g width (r .drawn) ≡ false
+  rows-there r e = shown-rows s b g width height len (placeAt p stride scale) r (sym drawn-is ∙ e) .1 .rows
 
--- src/draw.rt:83:21
-enum-known-drawn : tie.Need-enum-known-drawn
-enum-known-drawn c = search needs
+  pixels-inside : (r : Rows) → drawn ≡ Drawn.Rows r → pixelPast s b g width width (placeAt p stride scale) (r .drawn) len ≡ false
+  pixels-inside r e = shown-rows s b g width height len (placeAt p stride scale) r (sym drawn-is ∙ e) .1 .pixels
 
--- src/draw.rt:84:13
-rows-from-requires : tie.Need-rows-from-requires
-rows-from-requires c κs = let d = shown-rows (c .before .before .before .before .before .before .before .args .s .now) (c .before .before .before .before .before .before .before .args .b) (c .before .before .before .before .before .before .before .args .g .0) (c .before .before .before .before .before .before .before .args .width) (c .before .before .before .before .before .before .before .args .height) (length (c .before .before .before .before .before .before .before .args .buf .now)) (c .before .before .before .before .before .before .before .args .p) (c .before .before .before .before .before .before .before .args .stride) (c .before .before .before .before .before .before .before .args .scale) _ (sym (c .before .before .before .before .shown-at .ensures) ∙ c .before .before .drawn .given .1) .1 in (d .rows, d .pixels)
-
--- src/draw.rt:98:24
-enum-known-drawn-2 : tie.Need-enum-known-drawn-2
-enum-known-drawn-2 c = search needs
-
--- src/draw.rt:66:1
-same-length : tie.Need-same-length
-same-length c = search needs
-
--- src/draw.rt:66:1
-returns : tie.Need-returns
-returns c = (sym (c .before .before .before .before .before .drawn .given .1) ∙ c .before .before .before .before .before .before .before .shown-at .ensures, c .before .before .rows-from .ensures)
-
--- src/draw.rt:66:1
-returns-2 : tie.Need-returns-2
-returns-2 c = (sym (c .before .drawn2 .given .1) ∙ c .before .before .before .shown-at .ensures, refl)
+  answered : (r : Drawn) → drawn ≡ r → r ≡ shownAt s b g width height len (placeAt p stride scale)
+  answered r e = sym e ∙ drawn-is
 
 pub show-at-spec : {M : Type 1} → statement M
 show-at-spec =
     tie.close
     (tie.spec
-    shown-at-requires
-    enum-known-drawn
-    rows-from-requires
-    enum-known-drawn-2
-    same-length
-    returns
-    returns-2)
+    (λ c κs. search needs)  -- shown-at-requires
+    (λ c. search needs)  -- enum-known-drawn
+    (λ c κs. search (rows-there, pixels-inside, known tie.After-shown-at (search) .shown-at .ensures))  -- rows-from-requires
+    (λ c. search needs)  -- enum-known-drawn-2
+    (λ c. search needs)  -- same-length
+    (λ c. search answered)  -- returns
+    (λ c. search answered))  -- returns-2
