@@ -10,6 +10,7 @@ use lib.ListN.{length}
 use borrow.Author.Tests.{leb-true, leb-false}
 use Rattle.reads.proofs.Tests.{both, split}
 use Rattle.tables.specs.declared.BitmapData.{BitmapData}
+use Rattle.bitmaps.specs.Place.{Place, placeAt}
 use Rattle.bitmaps.specs.Limits.{okPair}
 use Rattle.bitmaps.specs.Picture.{glyphBit}
 use Rattle.bitmaps.specs.Draw.{shownAt, shownLeaves}
@@ -22,36 +23,31 @@ use Rattle.place.specs.declared.GlyphInfo.{GlyphInfo}
 use Rattle.glyphs.specs.Glyph.{placeOf, okInfo, nothingDrawn}
 
 module _ (s : List ℕ) (b : BitmapData) (g width stride scale : ℕ) where
-  far-shown : (height len p q : ℕ) → len ≤ p → len ≤ q → shownAt s b g width height len p stride scale ≡ shownAt s b g width height len q stride scale
+  far-shown : (height len p q : ℕ) → len ≤ p → len ≤ q → shownAt s b g width height len (placeAt p stride scale) ≡ shownAt s b g width height len (placeAt q stride scale)
   unfolding shownAt
   far-shown height len p q h k =
       rw (
-        drawn-none len p stride scale height h,
-        drawn-none len q stride scale height k,
-        none-found (glyphBit s b g width) p stride scale width 0 (λ r c a h l m. omega arith) (λ j. leb len j),
-        none-found (glyphBit s b g width) q stride scale width 0 (λ r c a h l m. omega arith) (λ j. leb len j),
+        drawn-none len (placeAt p stride scale) height h,
+        drawn-none len (placeAt q stride scale) height k,
+        none-found (glyphBit s b g width) (placeAt p stride scale) width 0 (λ r c a h l m. omega arith) (λ j. leb len j),
+        none-found (glyphBit s b g width) (placeAt q stride scale) width 0 (λ r c a h l m. omega arith) (λ j. leb len j),
       ) refl
 
-  far-leaves : (p colour : ℕ) (r : Drawn) (old : List ℕ) → length old ≤ p → shownLeaves s b g width p stride scale colour r old ≡ old
+  far-leaves : (p colour : ℕ) (r : Drawn) (old : List ℕ) → length old ≤ p → shownLeaves s b g width (placeAt p stride scale) colour r old ≡ old
   far-leaves p colour (Drawn.Rows r) old h =
-      sym (dots-behind (glyphBit s b g width) p stride scale width (r .drawn) colour old h)
+      sym (dots-behind (glyphBit s b g width) (placeAt p stride scale) width (r .drawn) colour old h)
   far-leaves p colour (Drawn.Refused r) old h = refl
-
-  -- a glyph without a bitmap draws nothing
-  pub nothing-leaves : (p colour : ℕ) (old : List ℕ) → old ≡ shownLeaves s b g width p stride scale colour nothingDrawn old
-  nothing-leaves p colour old =
-      no-dots (glyphBit s b g width) p stride scale width 0 colour old (λ r c a h l m. omega arith)
 
   module _ (top p : ℕ) where
     pub capped-shown : (height len : ℕ) → len ≤ top
-        → shownAt s b g width height len (min top p) stride scale ≡ shownAt s b g width height len p stride scale
+        → shownAt s b g width height len (placeAt (min top p) stride scale) ≡ shownAt s b g width height len (placeAt p stride scale)
     capped-shown height len h =
         split (leb p top)
         (λ t. let within : min top p ≡ p = omega (arith, leb-true p top t) in rw within refl)
         (λ t. let beyond = leb-false p top t in far-shown height len (min top p) p (omega (arith, beyond)) (omega (arith, beyond)))
 
     pub capped-leaves : (colour : ℕ) (r : Drawn) (old : List ℕ) → length old ≤ top
-        → shownLeaves s b g width (min top p) stride scale colour r old ≡ shownLeaves s b g width p stride scale colour r old
+        → shownLeaves s b g width (placeAt (min top p) stride scale) colour r old ≡ shownLeaves s b g width (placeAt p stride scale) colour r old
     capped-leaves colour r old h =
         split (leb p top)
         (λ t. let within : min top p ≡ p = omega (arith, leb-true p top t) in rw within refl)
@@ -59,9 +55,14 @@ module _ (s : List ℕ) (b : BitmapData) (g width stride scale : ℕ) where
         let beyond = leb-false p top t in
         far-leaves (min top p) colour r old (omega (arith, beyond)) ∙ sym (far-leaves p colour r old (omega (arith, beyond))))
 
+-- a glyph without a bitmap draws nothing
+pub nothing-leaves : (s : List ℕ) (b : BitmapData) (g width : ℕ) (at : Place) (colour : ℕ) (old : List ℕ)
+    → old ≡ shownLeaves s b g width at colour nothingDrawn old
+nothing-leaves s b g width at colour old = no-dots (glyphBit s b g width) at width 0 colour old (λ r c a h l m. omega arith)
+
 -- the place of a glyph within the limits is no such place
 pub near-place : (i : GlyphInfo) (start stride scale : ℕ) → start ≤ 2147483647 → stride ≤ 65535 → scale ≤ 64 → okInfo i ≡ true
-    → min 18446744073709551615 (placeOf i start stride scale) ≡ placeOf i start stride scale
+    → min 18446744073709551615 (placeOf i (placeAt start stride scale) .p) ≡ placeOf i (placeAt start stride scale) .p
 near-place i start stride scale h k l e =
     let (size, pads) = both (okPair (i .width) (i .height)) (okPair (i .«pad_top») (i .«pad_left»)) e in
     let (top, left) = pair-limits (i .«pad_top») (i .«pad_left») pads in

@@ -8,12 +8,14 @@ use place::GlyphInfo;
 use place::Prepared;
 use place::char_info;
 use reads::CharCode;
-use reads::Refusal;
+use tables::Permit;
 use tables::Record;
+use tables::guard;
 use tables::record_fits;
 ghost use mathlib.Core.Path.{_≡_};
 ghost use lib.ListN.{length};
-ghost use Rattle.glyphs.specs.Char.{charOf, drawChar, charLeaves};
+ghost use Rattle.bitmaps.specs.Place.{placeAt};
+ghost use Rattle.glyphs.specs.Char.{charOf, charReady, drawChar, charLeaves};
 
 // The answer for a glyph that was placed so and drawn so.
 fn char_of(info: GlyphInfo, drawn: Drawn) -> CharDrawn
@@ -22,6 +24,27 @@ fn char_of(info: GlyphInfo, drawn: Drawn) -> CharDrawn
     match drawn {
         Drawn::Rows(rows) => CharDrawn::Glyph(info, rows),
         Drawn::Refused(r) => CharDrawn::Refused(r),
+    }
+}
+
+// Where a character's glyph is placed, or what refuses it before it is drawn: 6, 15, 9, 10 and 11.
+fn char_ready(
+    bytes: &[u8],
+    rec: Record,
+    code: CharCode,
+    start: usize,
+    stride: usize,
+    scale: usize,
+) -> Prepared
+    ensures { λ r. ⌜ r ≡ charReady (now (bytes .entry)) rec (code .0) (placeAt start stride scale) ⌝ }
+{
+    let permit = guard(
+        record_fits(bytes.len(), rec),
+        ok_place(start, stride, scale),
+    );
+    match permit {
+        Permit::Given => char_info(bytes, rec, code),
+        Permit::Refused(r) => Prepared::Refused(r),
     }
 }
 
@@ -35,21 +58,9 @@ pub fn char_check(
     stride: usize,
     scale: usize,
 ) -> CharDrawn
-    ensures { λ r. ⌜ r ≡ drawChar (now (bytes .entry)) rec (code .0) len start stride scale ⌝ }
+    ensures { λ r. ⌜ r ≡ drawChar (now (bytes .entry)) rec (code .0) len (placeAt start stride scale) ⌝ }
 {
-    if !record_fits(bytes.len(), rec) {
-        return CharDrawn::Refused(Refusal {
-            number: 6,
-            place: 0,
-        });
-    }
-    if !ok_place(start, stride, scale) {
-        return CharDrawn::Refused(Refusal {
-            number: 15,
-            place: 0,
-        });
-    }
-    let ready = char_info(bytes, rec, code);
+    let ready = char_ready(bytes, rec, code, start, stride, scale);
     match ready {
         Prepared::Info(info) => {
             let drawn = glyph_drawn(
@@ -83,22 +94,10 @@ pub fn draw_char(
     scale: usize,
     colour: u32,
 ) -> CharDrawn
-    ensures { λ r. ⌜ r ≡ drawChar (now (bytes .entry)) rec (code .0) (length (now (buf .entry))) start stride scale ⌝ }
-    ensures { λ r. ⌜ now (buf .exit) ≡ charLeaves (now (bytes .entry)) rec start stride scale colour r (now (buf .entry)) ⌝ }
+    ensures { λ r. ⌜ r ≡ drawChar (now (bytes .entry)) rec (code .0) (length (now (buf .entry))) (placeAt start stride scale) ⌝ }
+    ensures { λ r. ⌜ now (buf .exit) ≡ charLeaves (now (bytes .entry)) rec (placeAt start stride scale) colour r (now (buf .entry)) ⌝ }
 {
-    if !record_fits(bytes.len(), rec) {
-        return CharDrawn::Refused(Refusal {
-            number: 6,
-            place: 0,
-        });
-    }
-    if !ok_place(start, stride, scale) {
-        return CharDrawn::Refused(Refusal {
-            number: 15,
-            place: 0,
-        });
-    }
-    let ready = char_info(bytes, rec, code);
+    let ready = char_ready(bytes, rec, code, start, stride, scale);
     match ready {
         Prepared::Info(info) => {
             let drawn = show_glyph(

@@ -1,24 +1,27 @@
 // Drawing a placed glyph.
 use bitmaps::Drawn;
 use bitmaps::Rows;
+use bitmaps::no_bitmap;
 use outcome::ok_pair;
 use outcome::ok_place;
 use outcome::shown_at;
 use paint::show_at;
 use place::GlyphInfo;
-use reads::Refusal;
 use tables::BitmapData;
+use tables::Permit;
 use tables::Record;
+use tables::guard;
 use tables::record_fits;
 ghost use mathlib.Core.Path.{_≡_};
 ghost use Prim.Native.Nat.{min};
 ghost use lib.ListN.{length};
+ghost use Rattle.bitmaps.specs.Place.{placeAt};
 ghost use Rattle.bitmaps.specs.Draw.{shownLeaves};
-ghost use Rattle.glyphs.specs.Glyph.{placeOf, okInfo, glyphDrawn, drawGlyph, glyphLeaves};
+ghost use Rattle.glyphs.specs.Glyph.{placeOf, okInfo, glyphDrawn, glyphReady, drawGlyph, glyphLeaves};
 
 // Where a placed glyph is drawn; 2^64 - 1 where that is beyond 64 bits, and so beyond any buffer.
 pub(crate) fn place_of(info: GlyphInfo, start: usize, stride: u16, scale: u8) -> usize
-    ensures { λ r. ⌜ r ≡ min 18446744073709551615 (placeOf info start stride scale) ⌝ }
+    ensures { λ r. ⌜ r ≡ min 18446744073709551615 (placeOf info (placeAt start stride scale) .p) ⌝ }
 {
     let side = scale as usize;
     let down = stride as usize * side * info.pad_top as usize;
@@ -48,10 +51,10 @@ pub fn glyph_drawn(
     stride: u16,
     scale: u8,
 ) -> Drawn
-    ensures { λ r. ⌜ r ≡ glyphDrawn (now (s .entry)) b info len start stride scale ⌝ }
+    ensures { λ r. ⌜ r ≡ glyphDrawn (now (s .entry)) b info len (placeAt start stride scale) ⌝ }
 {
     let g = info.glyph;
-    if b.count <= g.0 as u32 {
+    if no_bitmap(b, g) {
         return Drawn::Rows(Rows {
             drawn: 0,
             dropped: 0,
@@ -72,11 +75,11 @@ pub fn show_glyph(
     scale: u8,
     colour: u32,
 ) -> Drawn
-    ensures { λ r. ⌜ r ≡ glyphDrawn (now (s .entry)) b info (length (now (buf .entry))) start stride scale ⌝ }
-    ensures { λ r. ⌜ now (buf .exit) ≡ shownLeaves (now (s .entry)) b (info .glyph .0) (info .width) (placeOf info start stride scale) stride scale colour r (now (buf .entry)) ⌝ }
+    ensures { λ r. ⌜ r ≡ glyphDrawn (now (s .entry)) b info (length (now (buf .entry))) (placeAt start stride scale) ⌝ }
+    ensures { λ r. ⌜ now (buf .exit) ≡ shownLeaves (now (s .entry)) b (info .glyph .0) (info .width) (placeOf info (placeAt start stride scale)) colour r (now (buf .entry)) ⌝ }
 {
     let g = info.glyph;
-    if b.count <= g.0 as u32 {
+    if no_bitmap(b, g) {
         return Drawn::Rows(Rows {
             drawn: 0,
             dropped: 0,
@@ -97,6 +100,23 @@ pub fn show_glyph(
     )
 }
 
+// The tests before a placed glyph is drawn: 6 for the record, 15 for the place and the glyph's own numbers.
+fn glyph_ready(
+    bytes: &[u8],
+    rec: Record,
+    info: GlyphInfo,
+    start: usize,
+    stride: usize,
+    scale: usize,
+) -> Permit
+    ensures { λ r. ⌜ r ≡ glyphReady (now (bytes .entry)) rec info (placeAt start stride scale) ⌝ }
+{
+    guard(
+        record_fits(bytes.len(), rec),
+        ok_place(start, stride, scale) & ok_info(info),
+    )
+}
+
 // What `draw_glyph` answers with a buffer of `len` pixels, refusals and their order too: a dry run.
 pub fn glyph_check(
     bytes: &[u8],
@@ -107,29 +127,21 @@ pub fn glyph_check(
     stride: usize,
     scale: usize,
 ) -> Drawn
-    ensures { λ r. ⌜ r ≡ drawGlyph (now (bytes .entry)) rec info len start stride scale ⌝ }
+    ensures { λ r. ⌜ r ≡ drawGlyph (now (bytes .entry)) rec info len (placeAt start stride scale) ⌝ }
 {
-    if !record_fits(bytes.len(), rec) {
-        return Drawn::Refused(Refusal {
-            number: 6,
-            place: 0,
-        });
+    let permit = glyph_ready(bytes, rec, info, start, stride, scale);
+    match permit {
+        Permit::Given => glyph_drawn(
+            bytes,
+            rec.bitmaps,
+            info,
+            len,
+            start,
+            stride as u16,
+            scale as u8,
+        ),
+        Permit::Refused(r) => Drawn::Refused(r),
     }
-    if !(ok_place(start, stride, scale) & ok_info(info)) {
-        return Drawn::Refused(Refusal {
-            number: 15,
-            place: 0,
-        });
-    }
-    glyph_drawn(
-        bytes,
-        rec.bitmaps,
-        info,
-        len,
-        start,
-        stride as u16,
-        scale as u8,
-    )
 }
 
 // Draws a placed glyph from `start` on, lowered and moved right by its pads, and answers the rows drawn
@@ -148,29 +160,21 @@ pub fn draw_glyph(
     scale: usize,
     colour: u32,
 ) -> Drawn
-    ensures { λ r. ⌜ r ≡ drawGlyph (now (bytes .entry)) rec info (length (now (buf .entry))) start stride scale ⌝ }
-    ensures { λ r. ⌜ now (buf .exit) ≡ glyphLeaves (now (bytes .entry)) rec info start stride scale colour r (now (buf .entry)) ⌝ }
+    ensures { λ r. ⌜ r ≡ drawGlyph (now (bytes .entry)) rec info (length (now (buf .entry))) (placeAt start stride scale) ⌝ }
+    ensures { λ r. ⌜ now (buf .exit) ≡ glyphLeaves (now (bytes .entry)) rec info (placeAt start stride scale) colour r (now (buf .entry)) ⌝ }
 {
-    if !record_fits(bytes.len(), rec) {
-        return Drawn::Refused(Refusal {
-            number: 6,
-            place: 0,
-        });
+    let permit = glyph_ready(bytes, rec, info, start, stride, scale);
+    match permit {
+        Permit::Given => show_glyph(
+            bytes,
+            rec.bitmaps,
+            info,
+            &mut *buf,
+            start,
+            stride as u16,
+            scale as u8,
+            colour,
+        ),
+        Permit::Refused(r) => Drawn::Refused(r),
     }
-    if !(ok_place(start, stride, scale) & ok_info(info)) {
-        return Drawn::Refused(Refusal {
-            number: 15,
-            place: 0,
-        });
-    }
-    show_glyph(
-        bytes,
-        rec.bitmaps,
-        info,
-        &mut *buf,
-        start,
-        stride as u16,
-        scale as u8,
-        colour,
-    )
 }

@@ -2,16 +2,30 @@
 use crate::glyph::ok_info;
 use crate::glyph::place_of;
 use bitmaps::Unpacked;
+use bitmaps::no_bitmap;
 use outcome::ok_place;
 use outcome::unpacked_at;
 use place::GlyphInfo;
-use reads::Refusal;
+use tables::Permit;
 use tables::Record;
+use tables::guard;
 use tables::record_fits;
 use unpack::unpack_at;
 ghost use mathlib.Core.Path.{_≡_};
 ghost use lib.ListN.{length};
+ghost use Rattle.bitmaps.specs.Unpack.{unscaled};
+ghost use Rattle.glyphs.specs.Glyph.{glyphReady};
 ghost use Rattle.glyphs.specs.Unpack.{unpackGlyph, unpackLeaves};
+
+// The tests before a placed glyph is unpacked: 6 for the record, 15 for the place and the glyph's own numbers.
+fn unpack_ready(bytes: &[u8], rec: Record, info: GlyphInfo, start: usize, stride: usize) -> Permit
+    ensures { λ r. ⌜ r ≡ glyphReady (now (bytes .entry)) rec info (unscaled start stride) ⌝ }
+{
+    guard(
+        record_fits(bytes.len(), rec),
+        ok_place(start, stride, 1) & ok_info(info),
+    )
+}
 
 // What `unpack_glyph` answers with a buffer of `len` bytes, refusals and their order too: a dry run.
 pub fn unpack_check(
@@ -24,25 +38,19 @@ pub fn unpack_check(
 ) -> Unpacked
     ensures { λ r. ⌜ r ≡ unpackGlyph (now (bytes .entry)) rec info len start stride ⌝ }
 {
-    if !record_fits(bytes.len(), rec) {
-        return Unpacked::Refused(Refusal {
-            number: 6,
-            place: 0,
-        });
+    let permit = unpack_ready(bytes, rec, info, start, stride);
+    match permit {
+        Permit::Given => {
+            let g = info.glyph;
+            if no_bitmap(rec.bitmaps, g) {
+                return Unpacked::Rows(0);
+            }
+            let line = stride as u16;
+            let p = place_of(info, start, line, 1);
+            unpacked_at(bytes, rec.bitmaps, g, info.width, info.height, len, p, line)
+        }
+        Permit::Refused(r) => Unpacked::Refused(r),
     }
-    if !(ok_place(start, stride, 1) & ok_info(info)) {
-        return Unpacked::Refused(Refusal {
-            number: 15,
-            place: 0,
-        });
-    }
-    let g = info.glyph;
-    if rec.bitmaps.count <= g.0 as u32 {
-        return Unpacked::Rows(0);
-    }
-    let line = stride as u16;
-    let p = place_of(info, start, line, 1);
-    unpacked_at(bytes, rec.bitmaps, g, info.width, info.height, len, p, line)
 }
 
 // Unpacks a placed glyph from `start` on, lowered and moved right by its pads: stores 1 for each set bit
@@ -63,32 +71,26 @@ pub fn unpack_glyph(
     ensures { λ r. ⌜ r ≡ unpackGlyph (now (bytes .entry)) rec info (length (now (buf .entry))) start stride ⌝ }
     ensures { λ r. ⌜ now (buf .exit) ≡ unpackLeaves (now (bytes .entry)) rec info start stride r (now (buf .entry)) ⌝ }
 {
-    if !record_fits(bytes.len(), rec) {
-        return Unpacked::Refused(Refusal {
-            number: 6,
-            place: 0,
-        });
+    let permit = unpack_ready(bytes, rec, info, start, stride);
+    match permit {
+        Permit::Given => {
+            let g = info.glyph;
+            if no_bitmap(rec.bitmaps, g) {
+                return Unpacked::Rows(0);
+            }
+            let line = stride as u16;
+            let p = place_of(info, start, line, 1);
+            unpack_at(
+                bytes,
+                rec.bitmaps,
+                g,
+                info.width,
+                info.height,
+                &mut *buf,
+                p,
+                line,
+            )
+        }
+        Permit::Refused(r) => Unpacked::Refused(r),
     }
-    if !(ok_place(start, stride, 1) & ok_info(info)) {
-        return Unpacked::Refused(Refusal {
-            number: 15,
-            place: 0,
-        });
-    }
-    let g = info.glyph;
-    if rec.bitmaps.count <= g.0 as u32 {
-        return Unpacked::Rows(0);
-    }
-    let line = stride as u16;
-    let p = place_of(info, start, line, 1);
-    unpack_at(
-        bytes,
-        rec.bitmaps,
-        g,
-        info.width,
-        info.height,
-        &mut *buf,
-        p,
-        line,
-    )
 }

@@ -5,14 +5,19 @@ use mathlib.Core.Bool.{Bool, true, false, cond}
 use mathlib.Core.List.{List}
 use native.Mathlib.Omega.{arith}
 use lib.Dec.{leb}
+use mir.Syntax.{w64}
+use mir.Val.{Fits}
 use lib.IntN.{natAbs}
 use lib.ListN.{length}
 use borrow.Author.Tests.{leb-true, le-leb, lt-leb}
 use Rattle.reads.specs.Said.{refusal}
 use Rattle.reads.specs.declared.Refusal.{Refusal}
-use Rattle.tables.specs.Fits.{recordFits}
+use Rattle.tables.specs.Fits.{recordFits, guard, ladder}
+use Rattle.tables.proofs.Guarded.{passes, guarded-answers, guarded-refuses}
 use Rattle.tables.specs.declared.MetricsUnpacked.{MetricsUnpacked}
+use Rattle.tables.specs.declared.Permit.{Permit}
 use Rattle.tables.specs.declared.Record.{Record}
+use Rattle.bitmaps.specs.Place.{placeAt}
 use Rattle.bitmaps.specs.Limits.{okPlace}
 use Rattle.outcome.proofs.Sizes.{within}
 use Rattle.outcome.proofs.WithinLimits.{place-limits}
@@ -47,10 +52,10 @@ module _ (rec : Record) (lay : Layout) (line : ℕ) where
       (refl, b, let q : lineHeight rec (lay .scale) ≡ line = cc in sym q)
   past-text (refused r) e = let z : _≡_ {A = ℕ} 0 1 = cc in absurd (omega arith)
 
-  pub ready-line : (s text : List ℕ) → ready s rec text lay ≡ Ready.Line line → Settled rec lay line × Readable text
+  past-all : (s text : List ℕ) → ready s rec text lay ≡ Ready.Line line → Settled rec lay line × Readable text
   unfolding ready
-  ready-line s text e =
-      let place = okPlace (lay .start) (lay .stride) (lay .scale) in
+  past-all s text e =
+      let place = okPlace (placeAt (lay .start) (lay .stride) (lay .scale)) in
       let short = leb (length text) 65535 in
       let after-short = cond short (readyText rec lay (decoded text)) (Ready.Refused (refusal 19 0)) in
       let (fits, e₁) = past (recordFits (length s) rec) (cond place after-short (Ready.Refused (refusal 15 0))) 6 line e in
@@ -68,6 +73,13 @@ module _ (rec : Record) (lay : Layout) (line : ℕ) where
         },
         record { is-chars = is-text; is-short = leb-true (length text) 65535 few },
       )
+
+  module _ (s text : List ℕ) (r : Ready) (r-is : r ≡ ready s rec text lay) (e : r ≡ Ready.Line line) where
+    pub is-settled : Settled rec lay line
+    is-settled = past-all s text (sym r-is ∙ e) .0
+
+    pub is-readable : Readable text
+    is-readable = past-all s text (sym r-is ∙ e) .1
 
 -- ---- the tests, one by one
 
@@ -89,56 +101,68 @@ sized-by m true d h e =
     omega (arith, small, ap (λ (x : Extent). x .height) q)
 sized-by m false d h e = let z : _≡_ {A = ℕ} 0 1 = cc in absurd (omega arith)
 
-pub sized-height : (m : MetricsUnpacked) (d : Extent) → Sized.Dimensions d ≡ boundsSized m → d .height ≤ 32767
+-- a line's height fits
+pub line-fits : (rec : Record) (lay : Layout) (d : Extent) (fits place : Bool) (permit : Permit) (size : Sized)
+    → place ≡ okPlace (placeAt (lay .start) (lay .stride) (lay .scale)) → permit ≡ ladder fits place → permit ≡ Permit.Given
+    → size ≡ boundsSized (boundsOf rec) → size ≡ Sized.Dimensions d → Fits w64 (lay .scale * d .height)
 unfolding boundsSized
-sized-height m d e = sized-by m (boundsHold m) d refl (sym e)
+line-fits rec lay d fits place permit size place-is permit-is given size-is e =
+    let limits = place-limits (lay .start) (lay .stride) (lay .scale) (sym place-is ∙ passes fits place (sym permit-is ∙ given) .1) in
+    omega (arith, within (lay .scale) 64 (d .height) 32767 (limits .4) (sized-by (boundsOf rec) (boundsHold (boundsOf rec)) d refl (sym size-is ∙ e)))
 
-module _ (s : List ℕ) (rec : Record) (text : List ℕ) (lay : Layout) where
-  pub ready-6 : recordFits (length s) rec ≡ false → Ready.Refused (refusal 6 0) ≡ ready s rec text lay
-  unfolding ready
-  ready-6 t = rw t refl
+module _ (s : List ℕ) (rec : Record) (text : List ℕ) (lay : Layout) (place : Bool) (permit : Permit)
+    (place-is : place ≡ okPlace (placeAt (lay .start) (lay .stride) (lay .scale))) (permit-is : permit ≡ guard s rec place) where
+  after : Ready
+  after = cond (leb (length text) 65535) (readyText rec lay (decoded text)) (Ready.Refused (refusal 19 0))
 
-  module _ (fits : recordFits (length s) rec ≡ true) where
-    pub ready-15 : okPlace (lay .start) (lay .stride) (lay .scale) ≡ false → Ready.Refused (refusal 15 0) ≡ ready s rec text lay
-    unfolding ready
-    ready-15 t = rw (fits, t) refl
+  pub ready-refused : (r : Refusal) → permit ≡ Permit.Refused r → Ready.Refused r ≡ ready s rec text lay
+  unfolding ready after
+  ready-refused r e = rw (← place-is) (sym (guarded-refuses s rec place permit permit-is Ready.Refused after r e))
 
-    module _ (ok : okPlace (lay .start) (lay .stride) (lay .scale) ≡ true) where
-      pub ready-19 : 65535 < length text → Ready.Refused (refusal 19 0) ≡ ready s rec text lay
-      unfolding ready
-      ready-19 h = rw (fits, ok, lt-leb (length text) 65535 h) refl
+  module _ (given : permit ≡ Permit.Given) where
+    ready-after : after ≡ ready s rec text lay
+    unfolding ready after
+    ready-after = rw (← place-is) (sym (guarded-answers s rec place permit permit-is Ready.Refused after given))
 
-      module _ (short : length text ≤ 65535) where
-        ready-text : readyText rec lay (decoded text) ≡ ready s rec text lay
-        unfolding ready
-        ready-text = rw (fits, ok, le-leb (length text) 65535 short) refl
+    pub ready-19 : 65535 < length text → Ready.Refused (refusal 19 0) ≡ ready s rec text lay
+    unfolding after
+    ready-19 h = rw (lt-leb (length text) 65535 h) at ready-after
 
-        pub ready-ill : (r : Refusal) → Checked.Refused r ≡ checked (decoded text) → Ready.Refused r ≡ ready s rec text lay
-        ready-ill r e = ap (readyText rec lay) (sym (checked-refused text r (sym e))) ∙ ready-text
+    module _ (short : length text ≤ 65535) (whole : Checked) (whole-is : whole ≡ checked (decoded text)) where
+      ready-text : readyText rec lay (decoded text) ≡ ready s rec text lay
+      unfolding after
+      ready-text = rw (le-leb (length text) 65535 short) at ready-after
 
-        -- of a text that is UTF-8
-        ready-bounds : (x : Sized) → Checked.Whole ≡ checked (decoded text) → x ≡ boundsSized (boundsOf rec) → bySize (lay .scale) x ≡ ready s rec text lay
+      pub ready-ill : (r : Refusal) → whole ≡ Checked.Refused r → Ready.Refused r ≡ ready s rec text lay
+      ready-ill r e = ap (readyText rec lay) (sym (checked-refused text r (sym whole-is ∙ e))) ∙ ready-text
+
+      -- of a text that is UTF-8
+      module _ (size : Sized) (e : whole ≡ Checked.Whole) (size-is : size ≡ boundsSized (boundsOf rec)) where
+        ready-bounds : bySize (lay .scale) size ≡ ready s rec text lay
         unfolding boundsSized
-        ready-bounds x e is =
-            ap (bySize (lay .scale)) is
+        ready-bounds =
+            ap (bySize (lay .scale)) size-is
             ∙ by-size (boundsHold (boundsOf rec)) (boundsOf rec) (lay .scale)
-            ∙ ap (readyText rec lay) (sym (checked-whole text (sym e)))
+            ∙ ap (readyText rec lay) (sym (checked-whole text (sym whole-is ∙ e)))
             ∙ ready-text
 
-        pub ready-sized : (d : Extent) → Checked.Whole ≡ checked (decoded text) → Sized.Dimensions d ≡ boundsSized (boundsOf rec)
-            → Ready.Line (lay .scale * d .height) ≡ ready s rec text lay
-        ready-sized d e is = ready-bounds (Sized.Dimensions d) e is
+        pub ready-sized : (d : Extent) (line : ℕ) → size ≡ Sized.Dimensions d → line ≡ lay .scale * d .height → Ready.Line line ≡ ready s rec text lay
+        ready-sized d line h is = rw is (rw h at ready-bounds)
 
-        pub ready-11 : (r : Refusal) → Checked.Whole ≡ checked (decoded text) → Sized.Refused r ≡ boundsSized (boundsOf rec) → Ready.Refused r ≡ ready s rec text lay
-        ready-11 r e is = ready-bounds (Sized.Refused r) e is
+        pub ready-11 : (r : Refusal) → size ≡ Sized.Refused r → Ready.Refused r ≡ ready s rec text lay
+        ready-11 r h = rw h at ready-bounds
 
-  -- ---- the whole call
+-- ---- the whole call
 
-  pub draw-ready : (len line : ℕ) → Ready.Line line ≡ ready s rec text lay
-      → textFrom s rec lay len (charsOf (decoded text)) origin 0 ≡ drawString s rec text len lay
+module _ (s : List ℕ) (rec : Record) (text : List ℕ) (lay : Layout) (len : ℕ) (tests : Ready) (tests-are : tests ≡ ready s rec text lay) where
+  pub string-refused : (r : Refusal) → tests ≡ Ready.Refused r → TextDrawn.Refused r ≡ drawString s rec text len lay
   unfolding drawString
-  draw-ready len line e = rw (← e) refl
+  string-refused r e = rw (← tests-are, e)
 
-  pub draw-refused : (len : ℕ) (r : Refusal) → Ready.Refused r ≡ ready s rec text lay → TextDrawn.Refused r ≡ drawString s rec text len lay
-  unfolding drawString
-  draw-refused len r e = rw (← e) refl
+  module _ (line : ℕ) (answer : TextDrawn) (e : tests ≡ Ready.Line line) (answer-is : answer ≡ textFrom s rec lay len (charsOf (decoded text)) origin 0) where
+    pub string-answered : answer ≡ drawString s rec text len lay
+    unfolding drawString
+    string-answered = rw (← tests-are, e) answer-is
+
+    pub string-answers : (r : TextDrawn) → answer ≡ r → r ≡ drawString s rec text len lay
+    string-answers r h = sym h ∙ string-answered

@@ -7,9 +7,10 @@ use lib.ListN.{length}
 use lib.Dec.{leb}
 use lib.IntN.{pos}
 use Rattle.reads.specs.Said.{Said, refusal, says, refuses}
-use Rattle.tables.specs.Fits.{recordFits}
+use Rattle.tables.specs.Fits.{guarded}
 use Rattle.tables.specs.declared.Record.{Record}
 use Rattle.bitmaps.specs.Paint.{painted}
+use Rattle.bitmaps.specs.Place.{placeAt}
 use Rattle.bitmaps.specs.Limits.{okPlace}
 use Rattle.bitmaps.specs.declared.Drawn.{Drawn}
 use Rattle.place.specs.Bounds.{boundsHold, boundsOf}
@@ -49,12 +50,8 @@ readyText rec lay (refused r) = Ready.Refused r
 -- what is tested before the first character: 6, 15, 19 ("text too long or not UTF-8"), 11
 unfoldable pub ready : List ℕ → Record → List ℕ → Layout → Ready
 ready s rec text lay =
-    cond (recordFits (length s) rec)
-    (cond (okPlace (lay .start) (lay .stride) (lay .scale))
-    (cond (leb (length text) 65535) (readyText rec lay (decoded text))
-    (Ready.Refused (refusal 19 0)))
-    (Ready.Refused (refusal 15 0)))
-    (Ready.Refused (refusal 6 0))
+    guarded Ready.Refused s rec (okPlace (placeAt (lay .start) (lay .stride) (lay .scale)))
+    (cond (leb (length text) 65535) (readyText rec lay (decoded text)) (Ready.Refused (refusal 19 0)))
 
 abbrev pub whenReady : Ready → TextDrawn → TextDrawn
 whenReady (Ready.Line line) answer = answer

@@ -10,6 +10,7 @@ use Rattle.reads.specs.Said.{refusal}
 use Rattle.tables.specs.declared.Record.{Record}
 use Rattle.lookup.specs.Lookup.{glyphOf}
 use Rattle.lookup.specs.declared.Found.{Found}
+use Rattle.bitmaps.specs.Place.{Place, placeAt}
 use Rattle.bitmaps.specs.declared.Drawn.{Drawn}
 use Rattle.place.specs.Bounds.{heightOf, boundsOf}
 use Rattle.place.specs.Info.{infoOf}
@@ -71,12 +72,12 @@ placed s rec lay code pen =
     (placeFound s rec lay pen (glyphOf s (rec .codes) code)))
 
 -- "draw at start + y × stride + x"
-abbrev pub spot : Layout → Pen → ℕ
-spot lay pen = lay .start + pen .y * lay .stride + pen .x
+abbrev pub spot : Layout → Pen → Place
+spot lay pen = placeAt (lay .start + pen .y * lay .stride + pen .x) (lay .stride) (lay .scale)
 
 -- a glyph drawn with the pen there, into `len` pixels
 abbrev pub drawnFrom : List ℕ → Record → Layout → ℕ → Pen → GlyphInfo → Drawn
-drawnFrom s rec lay len pen i = glyphDrawn s (rec .bitmaps) i len (spot lay pen) (lay .stride) (lay .scale)
+drawnFrom s rec lay len pen i = glyphDrawn s (rec .bitmaps) i len (spot lay pen)
 
 -- what was placed, drawn into `len` pixels
 unfoldable pub placedDrawn : List ℕ → Record → Layout → ℕ → Placed → Drawn
@@ -97,6 +98,5 @@ rowsIn (Drawn.Refused r) = 0
 -- pixel k is one that what was placed colours
 abbrev pub inPlaced : List ℕ → Record → Layout → ℕ → Placed → ℕ → Bool
 inPlaced s rec lay len (Placed.Skip pen) k = false
-inPlaced s rec lay len (Placed.Glyph pen i) k =
-    inInfo s (rec .bitmaps) i (spot lay pen) (lay .stride) (lay .scale) (rowsIn (drawnFrom s rec lay len pen i)) k
+inPlaced s rec lay len (Placed.Glyph pen i) k = inInfo s (rec .bitmaps) i (spot lay pen) (rowsIn (drawnFrom s rec lay len pen i)) k
 inPlaced s rec lay len (Placed.Refused n) k = false

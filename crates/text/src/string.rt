@@ -9,7 +9,9 @@ use outcome::ok_place;
 use place::Sized;
 use place::bounds_sized;
 use reads::Refusal;
+use tables::Permit;
 use tables::Record;
+use tables::guard;
 use tables::record_fits;
 use utf8::Checked;
 use utf8::check;
@@ -22,34 +24,31 @@ ghost use Rattle.text.specs.Walk.{wrapOf};
 fn ready_for(bytes: &[u8], rec: Record, text: &[u8], lay: Layout) -> Ready
     ensures { λ r. ⌜ r ≡ ready (now (bytes .entry)) rec (now (text .entry)) lay ⌝ }
 {
-    if !record_fits(bytes.len(), rec) {
-        return Ready::Refused(Refusal {
-            number: 6,
-            place: 0,
-        });
-    }
-    if !ok_place(lay.start, lay.stride, lay.scale) {
-        return Ready::Refused(Refusal {
-            number: 15,
-            place: 0,
-        });
-    }
-    if 65535 < text.len() {
-        return Ready::Refused(Refusal {
-            number: 19,
-            place: 0,
-        });
-    }
-    let checked = check(text);
-    match checked {
-        Checked::Whole => {
-            let size = bounds_sized(rec.accel.maxbounds);
-            match size {
-                Sized::Dimensions(d) => Ready::Line(lay.scale * d.height),
-                Sized::Refused(r) => Ready::Refused(r),
+    let permit = guard(
+        record_fits(bytes.len(), rec),
+        ok_place(lay.start, lay.stride, lay.scale),
+    );
+    match permit {
+        Permit::Given => {
+            if 65535 < text.len() {
+                return Ready::Refused(Refusal {
+                    number: 19,
+                    place: 0,
+                });
+            }
+            let checked = check(text);
+            match checked {
+                Checked::Whole => {
+                    let size = bounds_sized(rec.accel.maxbounds);
+                    match size {
+                        Sized::Dimensions(d) => Ready::Line(lay.scale * d.height),
+                        Sized::Refused(r) => Ready::Refused(r),
+                    }
+                }
+                Checked::Refused(r) => Ready::Refused(r),
             }
         }
-        Checked::Refused(r) => Ready::Refused(r),
+        Permit::Refused(r) => Ready::Refused(r),
     }
 }
 

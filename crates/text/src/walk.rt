@@ -108,7 +108,7 @@ pub(crate) fn placed_at(
 // Where a pen stands in the buffer.
 pub(crate) fn spot(lay: Layout, pen: Pen) -> usize
     requires { ⌜ (lay .start ≤ 2147483647) × (lay .stride ≤ 65535) × PenIn 65536 pen ⌝ }
-    ensures { λ r. ⌜ r ≡ spot lay pen ⌝ }
+    ensures { λ r. ⌜ r ≡ spot lay pen .p ⌝ }
 {
     lay.start + pen.y * lay.stride + pen.x
 }

@@ -1,69 +1,18 @@
-use mathlib.Core.Path.{refl}
-use mathlib.Core.Bool.{_&&_}
-use native.Mathlib.Omega.{arith}
-use borrow.Author.Tests.{not-true, not-false}
-use Rattle.reads.proofs.Tests.{both}
-use Rattle.bitmaps.specs.Limits.{okPlace}
-use Rattle.outcome.proofs.WithinLimits.{place-limits}
-use Rattle.glyphs.specs.Glyph.{okInfo, drawGlyph}
+use Rattle.glyphs.proofs.Tested.{stride-fits, scale-fits, glyph-drawn, glyph-refused}
 use borrow.Author.Needs.{needs}
 use Rattle.glyphs.proofs.glyph.draw_glyph.Statement.{statement}
 use Rattle.glyphs.proofs.glyph.draw_glyph.Tie as tie
-
--- src/glyph.rt:154:9
-record-fits-requires : tie.Need-record-fits-requires
-record-fits-requires c κs = search needs
-
--- src/glyph.rt:155:9
-returns : tie.Need-returns
-unfolding drawGlyph
-returns c = (rw (← c .before .record-fits .ensures, not-true (c .before .record-fits .result) (c .if1 .taken)) refl, refl)
-
--- src/glyph.rt:160:10
-ok-place-requires : tie.Need-ok-place-requires
-ok-place-requires c κs = search needs
-
--- src/glyph.rt:160:43
-ok-info-requires : tie.Need-ok-info-requires
-ok-info-requires c κs = search needs
-
--- src/glyph.rt:161:9
-returns-2 : tie.Need-returns-2
-unfolding drawGlyph
-returns-2 c = (rw (← c .before .before .before .before .record-fits .ensures, not-false (c .before .before .before .before .record-fits .result) (c .before .before .before .if1 .left), ← c .before .before .ok-place .ensures, ← c .before .ok-info .ensures, not-true (c .before .before .ok-place .result && c .before .ok-info .result) (c .if2 .taken)) refl, refl)
-
--- src/glyph.rt:172:9
-cast-show-glyph : tie.Need-cast-show-glyph
-cast-show-glyph c = omega (arith, place-limits (c .before .before .before .before .before .before .before .before .args .start) (c .before .before .before .before .before .before .before .before .args .stride) (c .before .before .before .before .before .before .before .before .args .scale) (both (okPlace (c .before .before .before .before .before .before .before .before .args .start) (c .before .before .before .before .before .before .before .before .args .stride) (c .before .before .before .before .before .before .before .before .args .scale)) (okInfo (c .before .before .before .before .before .before .before .before .args .info)) (rw (← c .before .before .before .ok-place .ensures, ← c .before .before .ok-info .ensures) (not-false (c .before .before .before .ok-place .result && c .before .before .ok-info .result) (c .before .if2 .left))) .0))
-
--- src/glyph.rt:173:9
-cast-show-glyph-2 : tie.Need-cast-show-glyph-2
-cast-show-glyph-2 c = omega (arith, place-limits (c .before .before .before .before .before .before .before .before .args .start) (c .before .before .before .before .before .before .before .before .args .stride) (c .before .before .before .before .before .before .before .before .args .scale) (both (okPlace (c .before .before .before .before .before .before .before .before .args .start) (c .before .before .before .before .before .before .before .before .args .stride) (c .before .before .before .before .before .before .before .before .args .scale)) (okInfo (c .before .before .before .before .before .before .before .before .args .info)) (rw (← c .before .before .before .ok-place .ensures, ← c .before .before .ok-info .ensures) (not-false (c .before .before .before .ok-place .result && c .before .before .ok-info .result) (c .before .if2 .left))) .0))
-
--- src/glyph.rt:166:5
-show-glyph-requires : tie.Need-show-glyph-requires
-show-glyph-requires c κs = search needs
-
--- src/glyph.rt:141:1
-same-length : tie.Need-same-length
-same-length c = search needs
-
--- src/glyph.rt:141:1
-returns-3 : tie.Need-returns-3
-unfolding drawGlyph
-returns-3 c = (rw (← c .before .before .before .before .before .before .before .before .record-fits .ensures, not-false (c .before .before .before .before .before .before .before .before .record-fits .result) (c .before .before .before .before .before .before .before .if1 .left), ← c .before .before .before .before .before .before .ok-place .ensures, ← c .before .before .before .before .before .ok-info .ensures, not-false (c .before .before .before .before .before .before .ok-place .result && c .before .before .before .before .before .ok-info .result) (c .before .before .before .before .if2 .left)) (c .before .before .show-glyph .ensures .0), c .before .before .show-glyph .ensures .1)
 
 pub draw-glyph-spec : {M : Type 1} → statement M
 draw-glyph-spec =
     tie.close
     (tie.spec
-    record-fits-requires
-    returns
-    ok-place-requires
-    ok-info-requires
-    returns-2
-    cast-show-glyph
-    cast-show-glyph-2
-    show-glyph-requires
-    same-length
-    returns-3)
+    (λ c κs. search needs)  -- glyph-ready-requires
+    (λ c. search needs)  -- enum-told
+    (λ c. search stride-fits)  -- cast-show-glyph
+    (λ c. search scale-fits)  -- cast-show-glyph-2
+    (λ c κs. search needs)  -- show-glyph-requires
+    (λ c. search needs)  -- enum-known-permit
+    (λ c. search needs)  -- same-length
+    (λ c. search glyph-drawn)  -- returns
+    (λ c. search glyph-refused))  -- returns-2

@@ -1,77 +1,19 @@
-use mathlib.Core.Path.{refl}
-use mathlib.Core.Bool.{_&&_}
-use native.Mathlib.Omega.{arith}
-use borrow.Author.Tests.{le-leb, lt-leb, not-true, not-false}
-use Rattle.reads.proofs.Tests.{both}
-use Rattle.bitmaps.specs.Limits.{okPlace}
-use Rattle.outcome.proofs.WithinLimits.{place-limits}
-use Rattle.glyphs.specs.Glyph.{okInfo}
-use Rattle.glyphs.specs.Unpack.{glyphUnpacked, unpackGlyph}
-use Rattle.glyphs.proofs.Far.{near-place}
+use Rattle.glyphs.proofs.Tested.{stride-fits, unpack-none, unpack-there, unpack-refused}
 use borrow.Author.Needs.{needs}
 use Rattle.glyphs.proofs.unpacking.unpack_check.Statement.{statement}
 use Rattle.glyphs.proofs.unpacking.unpack_check.Tie as tie
-
--- src/unpacking.rt:27:9
-record-fits-requires : tie.Need-record-fits-requires
-record-fits-requires c κs = search needs
-
--- src/unpacking.rt:28:9
-returns : tie.Need-returns
-unfolding unpackGlyph
-returns c = rw (← c .before .record-fits .ensures, not-true (c .before .record-fits .result) (c .if1 .taken)) refl
-
--- src/unpacking.rt:33:10
-ok-place-requires : tie.Need-ok-place-requires
-ok-place-requires c κs = search needs
-
--- src/unpacking.rt:33:39
-ok-info-requires : tie.Need-ok-info-requires
-ok-info-requires c κs = search needs
-
--- src/unpacking.rt:34:9
-returns-2 : tie.Need-returns-2
-unfolding unpackGlyph
-returns-2 c = rw (← c .before .before .before .before .record-fits .ensures, not-false (c .before .before .before .before .record-fits .result) (c .before .before .before .if1 .left), ← c .before .before .ok-place .ensures, ← c .before .ok-info .ensures, not-true (c .before .before .ok-place .result && c .before .ok-info .result) (c .if2 .taken)) refl
-
--- src/unpacking.rt:40:29
-cast-if3 : tie.Need-cast-if3
-cast-if3 c = search needs
-
--- src/unpacking.rt:41:9
-returns-3 : tie.Need-returns-3
-unfolding unpackGlyph glyphUnpacked
-returns-3 c = rw (← c .before .before .before .before .before .before .before .before .record-fits .ensures, not-false (c .before .before .before .before .before .before .before .before .record-fits .result) (c .before .before .before .before .before .before .before .if1 .left), ← c .before .before .before .before .before .before .ok-place .ensures, ← c .before .before .before .before .before .ok-info .ensures, not-false (c .before .before .before .before .before .before .ok-place .result && c .before .before .before .before .before .ok-info .result) (c .before .before .before .before .if2 .left), le-leb (c .before .before .before .before .before .before .before .before .before .before .args .rec .bitmaps .count) (c .before .before .before .before .before .before .before .before .before .before .args .info .glyph .0) (c .if3 .taken)) refl
-
--- src/unpacking.rt:43:16
-cast-line : tie.Need-cast-line
-cast-line c = omega (arith, place-limits (c .before .before .before .before .before .before .before .before .before .before .args .start) (c .before .before .before .before .before .before .before .before .before .before .args .stride) 1 (both (okPlace (c .before .before .before .before .before .before .before .before .before .before .args .start) (c .before .before .before .before .before .before .before .before .before .before .args .stride) 1) (okInfo (c .before .before .before .before .before .before .before .before .before .before .args .info)) (rw (← c .before .before .before .before .before .before .ok-place .ensures, ← c .before .before .before .before .before .ok-info .ensures) (not-false (c .before .before .before .before .before .before .ok-place .result && c .before .before .before .before .before .ok-info .result) (c .before .before .before .before .if2 .left))) .0))
-
--- src/unpacking.rt:44:9
-place-of-requires : tie.Need-place-of-requires
-place-of-requires c κs = search needs
-
--- src/unpacking.rt:45:5
-unpacked-at-requires : tie.Need-unpacked-at-requires
-unpacked-at-requires c κs = search needs
-
--- src/unpacking.rt:17:1
-returns-4 : tie.Need-returns-4
-unfolding unpackGlyph glyphUnpacked
-returns-4 c = let l = place-limits (c .before .before .before .before .before .before .before .before .before .before .before .before .args .start) (c .before .before .before .before .before .before .before .before .before .before .before .before .args .stride) 1 (both (okPlace (c .before .before .before .before .before .before .before .before .before .before .before .before .args .start) (c .before .before .before .before .before .before .before .before .before .before .before .before .args .stride) 1) (okInfo (c .before .before .before .before .before .before .before .before .before .before .before .before .args .info)) (rw (← c .before .before .before .before .before .before .before .before .ok-place .ensures, ← c .before .before .before .before .before .before .before .ok-info .ensures) (not-false (c .before .before .before .before .before .before .before .before .ok-place .result && c .before .before .before .before .before .before .before .ok-info .result) (c .before .before .before .before .before .before .if2 .left))) .0) in let e = near-place (c .before .before .before .before .before .before .before .before .before .before .before .before .args .info) (c .before .before .before .before .before .before .before .before .before .before .before .before .args .start) (c .before .before .before .before .before .before .before .before .before .before .before .before .args .stride) 1 (l .0) (l .2) (omega arith) (both (okPlace (c .before .before .before .before .before .before .before .before .before .before .before .before .args .start) (c .before .before .before .before .before .before .before .before .before .before .before .before .args .stride) 1) (okInfo (c .before .before .before .before .before .before .before .before .before .before .before .before .args .info)) (rw (← c .before .before .before .before .before .before .before .before .ok-place .ensures, ← c .before .before .before .before .before .before .before .ok-info .ensures) (not-false (c .before .before .before .before .before .before .before .before .ok-place .result && c .before .before .before .before .before .before .before .ok-info .result) (c .before .before .before .before .before .before .if2 .left))) .1) in rw (← c .before .before .before .before .before .before .before .before .before .before .record-fits .ensures, not-false (c .before .before .before .before .before .before .before .before .before .before .record-fits .result) (c .before .before .before .before .before .before .before .before .before .if1 .left), ← c .before .before .before .before .before .before .before .before .ok-place .ensures, ← c .before .before .before .before .before .before .before .ok-info .ensures, not-false (c .before .before .before .before .before .before .before .before .ok-place .result && c .before .before .before .before .before .before .before .ok-info .result) (c .before .before .before .before .before .before .if2 .left), lt-leb (c .before .before .before .before .before .before .before .before .before .before .before .before .args .rec .bitmaps .count) (c .before .before .before .before .before .before .before .before .before .before .before .before .args .info .glyph .0) (c .before .before .if3 .left), ← e, ← c .before .place-of .ensures) (c .unpacked-at .ensures)
 
 pub unpack-check-spec : {M : Type 1} → statement M
 unpack-check-spec =
     tie.close
     (tie.spec
-    record-fits-requires
-    returns
-    ok-place-requires
-    ok-info-requires
-    returns-2
-    cast-if3
-    returns-3
-    cast-line
-    place-of-requires
-    unpacked-at-requires
-    returns-4)
+    (λ c κs. search needs)  -- unpack-ready-requires
+    (λ c. search needs)  -- enum-told
+    (λ c κs. search needs)  -- no-bitmap-requires
+    (λ c. search unpack-none)  -- returns
+    (λ c. search stride-fits)  -- cast-line
+    (λ c κs. search needs)  -- place-of-requires
+    (λ c κs. search needs)  -- unpacked-at-requires
+    (λ c. search needs)  -- enum-known-permit
+    (λ c. search unpack-there)  -- returns-2
+    (λ c. search unpack-refused))  -- returns-3
