@@ -4,14 +4,13 @@ use native.Mathlib.Omega.{arith}
 use mathlib.Core.Path.{_≡_, sym, ap, _∙_}
 use mathlib.Core.Bool.{Bool, true, false}
 use mathlib.Core.List.{List}
-use lib.ListN.{length}
+use lib.ListN.{length, take}
 use lib.Seq.{length-sets, length-take-le}
 use lib.Dec.{ltb}
 use borrow.Author.Tests.{ltb-false}
 use Rattle.reads.proofs.Tests.{never, split}
 use Rattle.tables.specs.Fits.{recordFits}
 use Rattle.tables.specs.declared.Record.{Record}
-use Rattle.io.specs.Counts.{Counts}
 use Rattle.frames.specs.Frames.{frameOf}
 use Rattle.frames.specs.Put.{lineInto, lineLeaves, frameInto, frameLeaves}
 use Rattle.frames.specs.declared.Printed.{Printed}
@@ -24,21 +23,23 @@ abbrev countOf : Printed → ℕ
 countOf (Printed.Bytes n) = n
 countOf (Printed.Refused r) = 0
 
-pub line-counts : (line old new : List ℕ) (r : Printed) (n : ℕ)
-    → r ≡ lineInto line (length old) → new ≡ lineLeaves line r old → r ≡ Printed.Bytes n → Counts n new
-line-counts line old new r n answer left e =
+pub line-within : (line old new : List ℕ) (r : Printed) (n : ℕ)
+    → r ≡ lineInto line (length old) → new ≡ lineLeaves line r old → r ≡ Printed.Bytes n → n ≤ length new
+line-within line old new r n answer left e =
     split (ltb (length old) (length line))
     (λ t. never (ap isBytes (rw t at (sym answer ∙ e))))
     (λ t.
     let same : length line ≡ n = ap countOf (rw t at (sym answer ∙ e)) in
     let kept : length new ≡ length old = ap length (rw e at left) ∙ length-sets old 0 line in
-    let within : n ≤ length new = omega (arith, same, kept, ltb-false (length old) (length line) t) in
-    (within, sym (length-take-le n new within)))
+    omega (arith, ltb-false (length old) (length line) t))
 
-pub frame-counts : (s : List ℕ) (rec : Record) (code : ℕ) (old new : List ℕ) (r : Printed) (n : ℕ)
-    → r ≡ frameInto s rec code (length old) → new ≡ frameLeaves s rec code r old → r ≡ Printed.Bytes n → Counts n new
+pub frame-within : (s : List ℕ) (rec : Record) (code : ℕ) (old new : List ℕ) (r : Printed) (n : ℕ)
+    → r ≡ frameInto s rec code (length old) → new ≡ frameLeaves s rec code r old → r ≡ Printed.Bytes n → n ≤ length new
 unfolding frameInto
-frame-counts s rec code old new r n answer left e =
+frame-within s rec code old new r n answer left e =
     split (recordFits (length s) rec)
-    (λ t. line-counts (frameOf s rec code) old new r n (rw t at answer) left e)
+    (λ t. line-within (frameOf s rec code) old new r n (rw t at answer) left e)
     (λ t. never (ap isBytes (rw t at (sym answer ∙ e))))
+
+pub counted : (n : ℕ) (new : List ℕ) → n ≤ length new → n ≡ length (take n new)
+counted n new within = sym (length-take-le n new within)

@@ -29,6 +29,11 @@ then {l} {m} {n} {at} {mid} {end} {a} {b} p q =
       same = q .same ∙ p .same;
     }
 
+-- three runs, which together are `vs`
+pub three-runs : (l m n o a b c vs : List ℕ) (at second third end : ℕ) → Put l at a second m → Put m second b third n → Put n third c end o
+    → a ++ (b ++ c) ≡ vs → Put l at vs end o
+three-runs l m n o a b c vs at second third end p q r e = rw (← e) (then p (then q r))
+
 -- a line and a buffer without room for it
 pub no-room : (line : List ℕ) (room : ℕ) → room < length line → Printed.Refused (refusal 15 0) ≡ lineInto line room
 no-room line room h = rw (lt-ltb room (length line) h) refl

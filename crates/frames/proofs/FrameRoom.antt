@@ -23,7 +23,7 @@ use Rattle.bitmaps.specs.Picture.{bitsOf, offsetOf, rowsShort}
 use Rattle.bitmaps.proofs.DataBytes.{data-length}
 use Rattle.bitmaps.proofs.LastByte.{last-byte}
 use Rattle.load.proofs.Serves.{loaded-serves}
-use Rattle.metrics.specs.Measure.{metricsAt}
+use Rattle.metrics.specs.Measure.{glyphMetrics}
 use Rattle.place.specs.Bounds.{boundsOf}
 use Rattle.place.specs.Info.{boxOf, infoOf}
 use Rattle.place.specs.declared.GlyphInfo.{GlyphInfo}
@@ -115,6 +115,6 @@ pub passed-room : (s : List ℕ) (rec : Record) → vetted s ≡ Vetted.Passed r
 passed-room s rec e code =
     frame-of-room s rec code (loaded-serves s rec (passes-when s rec .0 e .0)) (λ g i found info.
     let u = passed-usable s rec e code g found in
-    let same : Prepared.Info (boxOf g (metricsAt s (rec .metrics) (g .0)) (boundsOf rec .ascent)) ≡ Prepared.Info i = sym (usable-info s rec g u) ∙ info in
-    let box : boxOf g (metricsAt s (rec .metrics) (g .0)) (boundsOf rec .ascent) ≡ i = cc in
+    let same : Prepared.Info (boxOf g (glyphMetrics s (rec .metrics) (g .0)) (boundsOf rec .ascent)) ≡ Prepared.Info i = sym (usable-info s rec g u) ∙ info in
+    let box : boxOf g (glyphMetrics s (rec .metrics) (g .0)) (boundsOf rec .ascent) ≡ i = cc in
     subst (InData s (rec .bitmaps)) box (u .has-rows))

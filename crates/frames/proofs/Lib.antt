@@ -1,7 +1,9 @@
 pub mod Chain
 pub mod HexRuns
 pub mod RowRuns
+pub mod Writing
 pub mod FrameLength
+pub mod Lines
 pub mod FrameRoom
 pub mod FramesRange
 pub mod DumpRange

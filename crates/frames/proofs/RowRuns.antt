@@ -6,6 +6,8 @@ use native.Mathlib.Nat.{zero-add, add-zero, zero-mul, suc-mul, mul-le-mul, mul-l
 use native.Mathlib.Numerals.{add-one}
 use native.Mathlib.Omega.{arith}
 use lib.ListN.{length, length-append}
+use mir.Syntax.{w64}
+use mir.Val.{Fits}
 use Rattle.tables.specs.declared.BitmapData.{BitmapData}
 use Rattle.bitmaps.specs.Rows.{rowBytes, rowByte}
 use Rattle.bitmaps.specs.Picture.{bitsOf, rowOf}
@@ -70,3 +72,13 @@ row-room k height w h = let e : (k + 1) * w ≤ height * w = mul-le-mul-right w 
 -- rows of 16-bit width and height are few enough for any sum of lengths
 pub rows-small : (width height : ℕ) → width < 65536 → height < 65536 → height * rowBytes width ≤ 536870912
 rows-small width height w h = mul-le-mul {n₁ = height} {m₁ = rowBytes width} {n₂ = 65536} {m₂ = 8192} (omega arith) (omega arith)
+
+module _ (width height row : ℕ) (row-is : row ≡ rowBytes width) where
+  pub size-is : height * row ≡ height * rowBytes width
+  size-is = rw row-is refl
+
+  pub size-small : width < 65536 → height < 65536 → height * row ≤ 536870912
+  size-small w h = rw row-is (rows-small width height w h)
+
+  pub size-fits : width < 65536 → height < 65536 → Fits w64 (height * row)
+  size-fits w h = omega (arith, size-small w h)

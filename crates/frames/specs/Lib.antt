@@ -1,3 +1,4 @@
+pub mod Typed
 pub mod Hex
 pub mod Frames
 pub mod Put

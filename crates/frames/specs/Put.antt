@@ -3,20 +3,21 @@
 use Prim.Native.Nat.{ℕ, _+_, _/_, _%_}
 use mathlib.Core.Path.{_≡_}
 use mathlib.Core.Bool.{cond}
-use mathlib.Core.List.{List, [], _∷_}
+use mathlib.Core.List.{List, [], _∷_, _++_}
 use lib.ListN.{length}
 use lib.Seq.{sets}
 use lib.Dec.{ltb}
 use lib.IntN.{pos}
 use Rattle.reads.specs.Said.{Said, refusal, says, refuses}
-use Rattle.tables.specs.Fits.{recordFits}
+use Rattle.tables.specs.Fits.{tested}
 use Rattle.tables.specs.declared.Record.{Record}
+use Rattle.frames.specs.Typed.{typed}
 use Rattle.frames.specs.Frames.{frameOf}
 use Rattle.frames.specs.declared.Printed.{Printed}
 
 -- `refused NN`: the word, a space, two decimal digits, a newline
 abbrev pub refusedLine : ℕ → List ℕ
-refusedLine n = 114 ∷ 101 ∷ 102 ∷ 117 ∷ 115 ∷ 101 ∷ 100 ∷ 32 ∷ (48 + n / 10) ∷ (48 + n % 10) ∷ 10 ∷ []
+refusedLine n = typed "refused " ++ ((48 + n / 10) ∷ (48 + n % 10) ∷ 10 ∷ [])
 
 -- a line into a buffer of `room` bytes: 15, or how many bytes it has
 abbrev pub lineInto : List ℕ → ℕ → Printed
@@ -29,7 +30,7 @@ lineLeaves line (Printed.Refused r) old = old
 
 -- `put_frame`: 6, 15
 unfoldable pub frameInto : List ℕ → Record → ℕ → ℕ → Printed
-frameInto s rec code room = cond (recordFits (length s) rec) (lineInto (frameOf s rec code) room) (Printed.Refused (refusal 6 0))
+frameInto s rec code room = tested Printed.Refused s rec (lineInto (frameOf s rec code) room)
 
 abbrev pub frameLeaves : List ℕ → Record → ℕ → Printed → List ℕ → List ℕ
 frameLeaves s rec code answer old = lineLeaves (frameOf s rec code) answer old

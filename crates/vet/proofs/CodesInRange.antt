@@ -1,5 +1,5 @@
 -- All 65,536 codes are vetted by the codes of the table's range.
-use mathlib.Core.Path.{_≡_, refl}
+use mathlib.Core.Path.{_≡_, refl, sym}
 use mathlib.Core.List.{List}
 use mathlib.Core.Logic.{inl, inr}
 use Prim.Native.Nat.{ℕ, _-_}
@@ -7,6 +7,7 @@ use Rattle.reads.specs.Said.{refusal}
 use Rattle.reads.specs.declared.Refusal.{Refusal}
 use Rattle.tables.specs.declared.Record.{Record}
 use Rattle.lookup.specs.CodeRange.{codeRange}
+use Rattle.lookup.specs.declared.CodeRange.{CodeRange}
 use Rattle.lookup.specs.Lookup.{glyphOf}
 use Rattle.lookup.specs.declared.Found.{Found}
 use Rattle.lookup.proofs.OutsideRange.{outside-none, range-end}
@@ -26,3 +27,7 @@ module _ (s : List ℕ) (rec : Record) where
       by-range (codeFault s rec) 65536 (codeRange (rec .codes) .low) (codeRange (rec .codes) .end) (range-end (rec .codes))
       (λ code below. no-glyph-no-fault code (refusal 9 0) (outside-none (rec .codes) code s (inl below)))
       (λ code above. no-glyph-no-fault code (refusal 9 0) (outside-none (rec .codes) code s (inr above)))
+
+  pub codes-by-range : (range : CodeRange) → range ≡ codeRange (rec .codes)
+      → firstFault (codeFault s rec) (range .end - range .low) (range .low) ≡ firstFault (codeFault s rec) 65536 0
+  codes-by-range range e = rw e (sym codes-in-range)

@@ -86,20 +86,22 @@ module _ (f : ℕ → ℕ) where
       record { from = omega arith; below = omega (arith, w .below); fault = w .fault; is-one = w .is-one; earlier = λ j h l. w .earlier j (omega arith) l })
       (eq-or-lt-of-le (w .from))
 
-  -- a loop that stands at number k, before `end`: it ends, it stops, it goes on
-  pub loop-ends : (end k : ℕ) → end ≤ k → firstFault f (end - k) k ≡ First.Clear
-  loop-ends end k h = none-clear (end - k) k (λ j l m. absurd (omega arith))
+  -- a loop that stands at number k, before `end`, where what is left answers for all: it ends, it stops, it goes on
+  module _ (end k : ℕ) (all : First) (so-far : firstFault f (end - k) k ≡ all) where
+    pub loop-ends : end ≤ k → First.Clear ≡ all
+    loop-ends h = sym (none-clear (end - k) k (λ j l m. absurd (omega arith))) ∙ so-far
 
-  pub loop-stops : (end k m : ℕ) → k < end → m ≡ f k → (m ≡ 0 → ⊥) → firstFault f (end - k) k ≡ First.At m k
-  loop-stops end k m h e z =
-      first-at (end - k) k m k
-      record { from = omega arith; below = omega arith; fault = sym e; is-one = z; earlier = λ j l n. absurd (omega arith) }
+    pub loop-stops : (m : ℕ) → k < end → m ≡ f k → (m ≡ 0 → ⊥) → First.At m k ≡ all
+    loop-stops m h e z =
+        sym (first-at (end - k) k m k
+        record { from = omega arith; below = omega arith; fault = sym e; is-one = z; earlier = λ j l n. absurd (omega arith) })
+        ∙ so-far
 
-  pub loop-goes-on : (end k m : ℕ) → k < end → m ≡ f k → m ≡ 0 → firstFault f (end - (k + 1)) (k + 1) ≡ firstFault f (end - k) k
-  unfolding firstFault
-  loop-goes-on end k m h e z =
-      let one : end - k ≡ suc (end - (k + 1)) = omega arith in
-      rw one (sym (or-none (f k) k (firstFault f (end - (k + 1)) (k + 1)) (sym e ∙ z)))
+    pub loop-goes-on : (m : ℕ) → k < end → m ≡ f k → m ≡ 0 → firstFault f (end - (k + 1)) (k + 1) ≡ all
+    unfolding firstFault
+    loop-goes-on m h e z =
+        let one : end - k ≡ suc (end - (k + 1)) = omega arith in
+        sym (or-none (f k) k (firstFault f (end - (k + 1)) (k + 1)) (sym e ∙ z)) ∙ (rw one at so-far)
 
   -- all N numbers, by those of a range outside which there is no fault
   module _ (N low end : ℕ) (within : end ≤ N) (before : (j : ℕ) → j < low → f j ≡ 0) (after : (j : ℕ) → end ≤ j → f j ≡ 0) where

@@ -3,3 +3,4 @@ pub mod CodesInRange
 pub mod Verdict
 pub mod PassedProps
 pub mod PassedCodes
+pub mod Faults

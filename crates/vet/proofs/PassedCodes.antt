@@ -20,8 +20,8 @@ use Rattle.lookup.proofs.OutsideRange.{outside-none, range-end}
 use Rattle.names.specs.Names.{nameOf}
 use Rattle.names.specs.declared.Named.{Named}
 use Rattle.names.specs.declared.Span.{Span}
-use Rattle.names.proofs.Numbered.{name-numbered}
-use Rattle.metrics.specs.Measure.{metricsAt, metricsOf}
+use Rattle.names.proofs.Refusals.{name-not-0}
+use Rattle.metrics.specs.Measure.{glyphMetrics, metricsOf}
 use Rattle.bitmaps.specs.Picture.{noBitmap, rowsShort}
 use Rattle.place.specs.Bounds.{boundsOf, heightOf}
 use Rattle.place.specs.Info.{placeable, boxOf, infoOf}
@@ -34,21 +34,21 @@ use Rattle.vet.proofs.Verdict.{passes-when}
 -- what can be drawn and named without a refusal of the font's
 pub record Usable (s : List ℕ) (rec : Record) (g : GlyphIndex) : Type 0 where
   pub is-measured : leb (rec .metrics .count) (g .0) ≡ false
-  pub in-range : placeable (metricsAt s (rec .metrics) (g .0)) (boundsOf rec .ascent) ≡ true
+  pub in-range : placeable (glyphMetrics s (rec .metrics) (g .0)) (boundsOf rec .ascent) ≡ true
   pub has-bitmap : noBitmap (rec .bitmaps) (g .0) ≡ false
-  pub has-rows : rowsShort s (rec .bitmaps) (g .0) (natAbs (metricsAt s (rec .metrics) (g .0) .width)) (natAbs (heightOf (metricsAt s (rec .metrics) (g .0)))) ≡ false
+  pub has-rows : rowsShort s (rec .bitmaps) (g .0) (natAbs (glyphMetrics s (rec .metrics) (g .0) .width)) (natAbs (heightOf (glyphMetrics s (rec .metrics) (g .0)))) ≡ false
   pub name : Span
   pub is-named : nameOf s (rec .names) (g .0) ≡ Named.Name name
 
 -- the box of such a glyph
 pub usable-info : (s : List ℕ) (rec : Record) (g : GlyphIndex)
-    → Usable s rec g → infoOf s rec g ≡ Prepared.Info (boxOf g (metricsAt s (rec .metrics) (g .0)) (boundsOf rec .ascent))
+    → Usable s rec g → infoOf s rec g ≡ Prepared.Info (boxOf g (glyphMetrics s (rec .metrics) (g .0)) (boundsOf rec .ascent))
 unfolding infoOf metricsOf
 usable-info s rec g u = rw (u .is-measured, u .in-range) refl
 
 module _ (s : List ℕ) (rec : Record) (g : GlyphIndex) where
   abbrev m : MetricsUnpacked
-  m = metricsAt s (rec .metrics) (g .0)
+  m = glyphMetrics s (rec .metrics) (g .0)
 
   abbrev top : ℤ
   top = boundsOf rec .ascent
@@ -71,7 +71,7 @@ module _ (s : List ℕ) (rec : Record) (g : GlyphIndex) where
             → noBitmap (rec .bitmaps) (g .0) ≡ false → rowsShort s (rec .bitmaps) (g .0) (natAbs (m .width)) (natAbs (heightOf m)) ≡ false
             → nameFault (nameOf s (rec .names) (g .0)) ≡ 0 → Usable s rec g
         by (Named.Name p) n t u v w e = record { is-measured = t; in-range = u; has-bitmap = v; has-rows = w; name = p; is-named = n }
-        by (Named.Refused r) n t u v w e = absurd ((rw n at (name-numbered s (rec .names) (g .0))) (rw n at e))
+        by (Named.Refused r) n t u v w e = absurd (name-not-0 s (rec .names) (g .0) r n (rw n at e))
 
 -- a code with this glyph has no fault exactly if the glyph is usable
 module _ (s : List ℕ) (rec : Record) (code : ℕ) (g : GlyphIndex) (found : glyphOf s (rec .codes) code ≡ Found.Glyph g) where

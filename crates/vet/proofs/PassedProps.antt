@@ -11,7 +11,7 @@ use Rattle.tables.specs.declared.PropertiesData.{PropertiesData}
 use Rattle.tables.specs.declared.Record.{Record}
 use Rattle.names.specs.declared.Named.{Named}
 use Rattle.names.specs.declared.Span.{Span}
-use Rattle.names.proofs.Numbered.{string-numbered}
+use Rattle.names.proofs.Refusals.{string-not-0}
 use Rattle.props.specs.Props.{propString, propOf}
 use Rattle.vet.specs.Vet.{propFault}
 
@@ -53,10 +53,10 @@ module _ (s : List ℕ) (rec : Record) (i : ℕ) (h : i < rec .props .count) whe
     value : (name : Span) → nameString s p i ≡ Named.Name name → eqb flag 0 ≡ false → (x : Named) → valueString s p i ≡ x → (text : Span) × (valueString s p i ≡ Named.Name text)
     value name n t (Named.Name text) v = (text, v)
     value name n t (Named.Refused r) v =
-        absurd ((rw v at (string-numbered s (p .strings) (p .size) (u32At (p .big) s (propPlace p i + 5)))) (rw (in-count, n, t, v) at e))
+        absurd (string-not-0 s (p .strings) (p .size) (u32At (p .big) s (propPlace p i + 5)) r v (rw (in-count, n, t, v) at e))
 
     by : (x : Named) → nameString s p i ≡ x → Readable s p i
     by (Named.Name name) n =
         record { name = name; is-named = n; has-value = λ z. value name n (ne-eqb flag 0 z) (valueString s p i) refl }
     by (Named.Refused r) n =
-        absurd ((rw n at (string-numbered s (p .strings) (p .size) (u32At (p .big) s (propPlace p i)))) (rw (in-count, n) at e))
+        absurd (string-not-0 s (p .strings) (p .size) (u32At (p .big) s (propPlace p i)) r n (rw (in-count, n) at e))

@@ -1,4 +1,5 @@
 // Vetting: in a font that passes, no code's glyph is ever refused for the font's sake.
+use bitmaps::no_bitmap;
 use bitmaps::rows_short;
 use bitmaps::unreadable;
 use load::Loaded;
@@ -66,7 +67,7 @@ fn box_fault(s: &[u8], rec: Record, i: GlyphInfo) -> u8
     ensures { λ r. ⌜ r ≡ boxFault (now (s .entry)) rec i ⌝ }
 {
     let g = i.glyph;
-    if rec.bitmaps.count <= g.0 as u32 {
+    if no_bitmap(rec.bitmaps, g) {
         return 12;
     }
     if rows_short(s, rec.bitmaps, g, i.width, i.height) {

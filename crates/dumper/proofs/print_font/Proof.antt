@@ -1,54 +1,35 @@
-use mathlib.Core.Path.{sym, _∙_}
+use Prim.Native.Nat.{ℕ}
+use mathlib.Core.Path.{_≡_, sym, _∙_}
+use mathlib.Core.List.{List}
+use Rattle.reads.specs.declared.Refusal.{Refusal}
+use Rattle.tables.specs.declared.Record.{Record}
+use Rattle.vet.specs.Vet.{vetted}
+use Rattle.vet.specs.declared.Vetted.{Vetted}
+use Rattle.frames.specs.Dump.{vettedNumber}
 use borrow.Author.Needs.{needs}
 use Rattle.dumper.proofs.print_font.Statement.{statement}
 use Rattle.dumper.proofs.print_font.Tie as tie
 
--- src/lib.rt:74:11
-vet-requires : tie.Need-vet-requires
-vet-requires c κs = search needs
+module _ (s : List ℕ) (found : Vetted) (is : found ≡ vetted s) where
+  passed : (rec : Record) → found ≡ Vetted.Passed rec → vetted s ≡ Vetted.Passed rec
+  passed rec e = sym is ∙ e
 
--- src/lib.rt:75:24
-enum-known-rec : tie.Need-enum-known-rec
-enum-known-rec c = search needs
+  passed-number : (rec : Record) → found ≡ Vetted.Passed rec → 0 ≡ vettedNumber (vetted s)
+  passed-number rec e = rw (← is, e)
 
--- src/lib.rt:76:13
-print-frames-requires : tie.Need-print-frames-requires
-print-frames-requires c κs = let (short, enough) = c .before .before .before .before .before .before .before .pre in (sym (c .before .before .before .before .vet .ensures) ∙ c .before .before .rec .given .1, (short, enough))
-
--- src/lib.rt:79:25
-enum-known-r : tie.Need-enum-known-r
-enum-known-r c = search needs
-
--- src/lib.rt:80:13
-print-refused-requires : tie.Need-print-refused-requires
-print-refused-requires c κs = search needs
-
--- src/lib.rt:69:1
-same-length : tie.Need-same-length
-same-length c = search needs
-
--- src/lib.rt:69:1
-returns : tie.Need-returns
-returns c = rw (← c .before .before .before .before .before .before .before .vet .ensures, c .before .before .before .before .before .rec .given .1)
-
--- src/lib.rt:69:1
-same-length-2 : tie.Need-same-length-2
-same-length-2 c = search needs
-
--- src/lib.rt:69:1
-returns-2 : tie.Need-returns-2
-returns-2 c = rw (← c .before .before .before .before .before .before .before .vet .ensures, c .before .before .before .before .before .r .given .1)
+  refused-number : (r : Refusal) → found ≡ Vetted.Refused r → r .number ≡ vettedNumber (vetted s)
+  refused-number r e = rw (← is, e)
 
 pub print-font-spec : {M : Type 1} → statement M
 print-font-spec =
     tie.close
     (tie.spec
-    vet-requires
-    enum-known-rec
-    print-frames-requires
-    enum-known-r
-    print-refused-requires
-    same-length
-    returns
-    same-length-2
-    returns-2)
+    (λ c κs. search needs)  -- vet-requires
+    (λ c. search needs)  -- enum-known-rec
+    (λ c κs. search (passed, needs))  -- print-frames-requires
+    (λ c. search needs)  -- enum-known-r
+    (λ c κs. search needs)  -- print-refused-requires
+    (λ c. search needs)  -- same-length
+    (λ c. search passed-number)  -- returns
+    (λ c. search needs)  -- same-length-2
+    (λ c. search refused-number))  -- returns-2

@@ -1,82 +1,53 @@
+-- The buffer has room for every text, so only a text that is none of bytes is refused here.
 use native.Mathlib.Omega.{arith}
-use mathlib.Core.Path.{_≡_, sym, _∙_}
-use lib.ListN.{length}
-use Rattle.hexline.specs.Lines.{hexRead}
+use Prim.Native.Nat.{ℕ, _≤_}
+use mathlib.Core.Path.{_≡_}
+use mathlib.Core.List.{List}
+use lib.ListN.{length, take}
+use Rattle.reads.specs.declared.Refusal.{Refusal}
+use Rattle.hexline.specs.Fill.{hexInto, hexLeaves}
 use Rattle.hexline.specs.declared.HexRead.{HexRead}
-use Rattle.hexline.proofs.Filled.{filled, room-enough}
-use Rattle.frames.specs.Dump.{dumpNumber}
+use Rattle.hexline.proofs.Filled.{Filled, filled, room-enough}
+use Rattle.dumper.proofs.LineCounts.{counted}
+use Rattle.vet.specs.Vet.{vetted}
+use Rattle.frames.specs.Dump.{dumpNumber, vettedNumber}
 use borrow.Author.Needs.{needs}
 use Rattle.dumper.proofs.print_text.Statement.{statement}
 use Rattle.dumper.proofs.print_text.Tie as tie
 
--- src/lib.rt:92:11
-fill-bytes-requires : tie.Need-fill-bytes-requires
-fill-bytes-requires c κs = search needs
+module _ (text old new : List ℕ) (read : HexRead) (is : read ≡ hexInto text (length old)) (left : new ≡ hexLeaves text read old) where
+  module _ (n : ℕ) (e : read ≡ HexRead.Bytes n) where
+    put : Filled text new n
+    put = filled text old new read n is left e
 
--- src/lib.rt:93:24
-enum-known-n : tie.Need-enum-known-n
-enum-known-n c = search needs
+    within : n ≤ length new
+    within = put .within
 
--- src/lib.rt:93:41
-slice-reshare-prefix-print-font : tie.Need-slice-reshare-prefix-print-font
-slice-reshare-prefix-print-font c = let (answer, left) = c .before .before .before .before .before .fill-bytes .ensures in filled _ _ _ _ _ answer left (c .before .n .given .1) .within
+    short : length (take n new) ≤ 49152
+    short = omega (arith, put .most, put .counted)
 
--- src/lib.rt:93:41
-slice-aggregate-print-font : tie.Need-slice-aggregate-print-font
-slice-aggregate-print-font c = let (answer, left) = c .before .before .before .before .before .before .fill-bytes .ensures in filled _ _ _ _ _ answer left (c .before .before .n .given .1) .counted
+    read-number : (k : ℕ) → k ≡ vettedNumber (vetted (take n new)) → k ≡ dumpNumber text
+    unfolding dumpNumber
+    read-number k e = rw (put .read, ← put .bytes) e
 
--- src/lib.rt:93:30
-print-font-requires : tie.Need-print-font-requires
-print-font-requires c κs = let (answer, left) = c .before .before .before .before .before .before .before .fill-bytes .ensures in let put = filled _ _ _ _ _ answer left (c .before .before .before .n .given .1) in (omega (arith, put .most, put .counted), search needs)
-
--- src/lib.rt:94:26
-enum-known-bad : tie.Need-enum-known-bad
-enum-known-bad c = search needs
-
--- src/lib.rt:95:13
-print-refused-requires : tie.Need-print-refused-requires
-print-refused-requires c κs = search needs
-
--- src/lib.rt:87:1
-same-length : tie.Need-same-length
-same-length c = search needs
-
--- src/lib.rt:87:1
-same-length-2 : tie.Need-same-length-2
-same-length-2 c = search needs
-
--- src/lib.rt:87:1
-returns : tie.Need-returns
-unfolding dumpNumber
-returns c = let (answer, left) = c .before .before .before .before .before .before .before .before .before .before .fill-bytes .ensures in let put = filled _ _ _ _ _ answer left (c .before .before .before .before .before .before .n .given .1) in rw (put .read, ← put .bytes) (c .before .before .print-font .ensures)
-
--- src/lib.rt:87:1
-same-length-3 : tie.Need-same-length-3
-same-length-3 c = search needs
-
--- src/lib.rt:87:1
-same-length-4 : tie.Need-same-length-4
-same-length-4 c = search needs
-
--- src/lib.rt:87:1
-returns-2 : tie.Need-returns-2
-unfolding dumpNumber
-returns-2 c = let text = c .before .before .before .before .before .before .before .before .before .before .before .before .before .before .args .text .now in let (answer, left) = c .before .before .before .before .before .before .before .before .before .fill-bytes .ensures in let read : hexRead text ≡ HexRead.Refused (c .before .before .before .before .before .bad .given .0 .0) = sym (room-enough text (length (c .before .before .before .before .before .before .before .before .before .before .before .before .before .before .args .font .now)) (c .before .before .before .before .before .before .before .before .before .before .before .before .before .before .pre .0)) ∙ sym answer ∙ c .before .before .before .before .before .bad .given .1 in rw read
+  refused-number : (bad : Refusal) → read ≡ HexRead.Refused bad → 49152 ≤ length old → bad .number ≡ dumpNumber text
+  unfolding dumpNumber
+  refused-number bad e enough = rw (← room-enough text (length old) enough, ← is, e)
 
 pub print-text-spec : {M : Type 1} → statement M
 print-text-spec =
     tie.close
     (tie.spec
-    fill-bytes-requires
-    enum-known-n
-    slice-reshare-prefix-print-font
-    slice-aggregate-print-font
-    print-font-requires
-    enum-known-bad
-    print-refused-requires
-    same-length
-    same-length-2
-    returns
-    same-length-3
-    same-length-4
-    returns-2)
+    (λ c κs. search needs)  -- fill-bytes-requires
+    (λ c. search needs)  -- enum-known-n
+    (λ c. search within)  -- slice-reshare-prefix-print-font
+    (λ c. search (counted, within))  -- slice-aggregate-print-font
+    (λ c κs. search (short, needs))  -- print-font-requires
+    (λ c. search needs)  -- enum-known-bad
+    (λ c κs. search needs)  -- print-refused-requires
+    (λ c. search needs)  -- same-length
+    (λ c. search needs)  -- same-length-2
+    (λ c. search read-number)  -- returns
+    (λ c. search needs)  -- same-length-3
+    (λ c. search needs)  -- same-length-4
+    (λ c. search refused-number))  -- returns-2

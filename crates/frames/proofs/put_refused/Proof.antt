@@ -1,69 +1,36 @@
-use mathlib.Core.Path.{refl}
-use lib.ListN.{length}
-use Rattle.frames.specs.Put.{refusedLine}
-use Rattle.frames.proofs.Chain.{then, no-room, line-put}
+use Prim.Native.Nat.{ℕ, _<_}
+use mathlib.Core.Path.{_≡_}
 use borrow.Author.Needs.{needs}
+use Rattle.reads.specs.Said.{refusal}
+use Rattle.frames.specs.Put.{refusedLine, refusedInto}
+use Rattle.frames.specs.declared.Printed.{Printed}
+use Rattle.reads.proofs.Places.{known}
+use Rattle.frames.proofs.Chain.{then, no-room, line-put}
 use Rattle.frames.proofs.put_refused.Statement.{statement}
 use Rattle.frames.proofs.put_refused.Tie as tie
 
--- src/lib.rt:60:9
-returns : tie.Need-returns
-returns c =
-    (no-room (refusedLine (c .before .before .args .number)) (length (c .before .before .args .out .now)) (c .if1 .taken), refl)
+short : (n room : ℕ) → room < 11 → Printed.Refused (refusal 15 0) ≡ refusedInto n room
+short n room h = no-room (refusedLine n) room h
 
--- src/lib.rt:65:25
-slice-aggregate-put-text : tie.Need-slice-aggregate-put-text
-slice-aggregate-put-text c = search needs
-
--- src/lib.rt:65:9
-put-text-requires : tie.Need-put-text-requires
-put-text-requires c κs = search needs
-
--- src/lib.rt:66:24
-add-put-one : tie.Need-add-put-one
-add-put-one c = search needs
-
--- src/lib.rt:66:9
-put-one-requires : tie.Need-put-one-requires
-put-one-requires c κs = search needs
-
--- src/lib.rt:67:24
-add-put-one-2 : tie.Need-add-put-one-2
-add-put-one-2 c = search needs
-
--- src/lib.rt:67:9
-put-one-requires-2 : tie.Need-put-one-requires-2
-put-one-requires-2 c κs = search needs
-
--- src/lib.rt:68:20
-put-one-requires-3 : tie.Need-put-one-requires-3
-put-one-requires-3 c κs = search needs
-
--- src/lib.rt:55:1
-same-length : tie.Need-same-length
-same-length c = search needs
-
--- src/lib.rt:55:1
+-- the word, the two digits and the newline, one after the other
 returns-2 : tie.Need-returns-2
 returns-2 c =
-    let end = c .before .before in
-    let ones = end .before .before .before .before in
-    let tens = ones .before .before .before .before in
-    let word = tens .before .before .before .before in
-    line-put (word .before .before .before .if1 .left)
-    (then (word .put-text .ensures) (then (tens .put-one .ensures) (then (ones .put-one2 .ensures) (end .put-one3 .ensures))))
+    line-put (known tie.Else1 (search) .if1 .left)
+    (then (known tie.After-put-text (search) .put-text .ensures)
+    (then (known tie.After-put-one (search) .put-one .ensures)
+    (then (known tie.After-put-one2 (search) .put-one2 .ensures) (known tie.After-put-one3 (search) .put-one3 .ensures))))
 
 pub put-refused-spec : {M : Type 1} → statement M
 put-refused-spec =
     tie.close
     (tie.spec
-    returns
-    slice-aggregate-put-text
-    put-text-requires
-    add-put-one
-    put-one-requires
-    add-put-one-2
-    put-one-requires-2
-    put-one-requires-3
-    same-length
+    (λ c. search short)  -- returns
+    (λ c. search needs)  -- slice-aggregate-put-text
+    (λ c κs. search needs)  -- put-text-requires
+    (λ c. search needs)  -- add-put-one
+    (λ c κs. search needs)  -- put-one-requires
+    (λ c. search needs)  -- add-put-one-2
+    (λ c κs. search needs)  -- put-one-requires-2
+    (λ c κs. search needs)  -- put-one-requires-3
+    (λ c. search needs)  -- same-length
     returns-2)

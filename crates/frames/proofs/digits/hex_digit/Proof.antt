@@ -4,23 +4,19 @@ use borrow.Author.Needs.{needs}
 use Rattle.frames.proofs.digits.hex_digit.Statement.{statement}
 use Rattle.frames.proofs.digits.hex_digit.Tie as tie
 
--- src/digits.rt:15:16
-add-result : tie.Need-add-result
-add-result c = search needs
-
--- src/digits.rt:15:9
 returns : tie.Need-returns
 unfolding hexDigit
 returns c = simp (lt-ltb _ _ (c .if1 .taken))
 
--- src/digits.rt:17:5
-add-result-2 : tie.Need-add-result-2
-add-result-2 c = search needs
-
--- src/digits.rt:10:1
 returns-2 : tie.Need-returns-2
 unfolding hexDigit
 returns-2 c = simp (le-ltb _ _ (c .if1 .left))
 
 pub hex-digit-spec : {M : Type 1} → statement M
-hex-digit-spec = tie.close (tie.spec add-result returns add-result-2 returns-2)
+hex-digit-spec =
+    tie.close
+    (tie.spec
+    (λ c. search needs)  -- add-result
+    returns
+    (λ c. search needs)  -- add-result-2
+    returns-2)
