@@ -1,3 +1,5 @@
-mod Walk
-mod Shapes
+mod Passing
 mod Recording
+mod Shapes
+mod Single
+mod Through

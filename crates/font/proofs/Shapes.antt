@@ -1,240 +1,313 @@
+pub mod Steps
 -- The code of a function of the view, and what a run of it does: the view is taken apart, and another function is called on its slice,
--- its record and the other parameters. Nothing is read of a type, so the types are variables here, and each function of the view has one
--- of these shapes at its own types. A `&mut` is lent on: its pointer and its length are taken, and put together again.
--- What is left to show of a function: that what its parameters own gives what the callee asks and something to keep (`asks`), that the
--- callee is met (`met`), and that what it gives, with what was kept, is what the function promises of a result of its type (`after`).
--- Assumes `Given`.
-use Rattle.font.proofs.Walk.{refl, ℕ, _<_, _^_, [], _∷_, Holds, URA, mut, erased, w32, w64, Ty, Sym, Lifetime, Name, Fn, tcons, tnil, tyInt, tyRef, tyStruct, local, valueLocal, place, field, deref, copy, rvOpd, addrOf, aggregate, seq, assign, call, return, Val, vcons, vnil, vint, vptr, vstruct, WT, hasTy, SProp, ent, sep, id⊢, Heap, Calls, Loops, WpFn, Atoms, Given, raw, _⊛_, given, later, mean, _$_, _∵_, !, qed, by, move, use1, use2, split, learn, await, agg, whole, sub, look-in, look, init, forget, stop, hop, fld, from, load, addr, of-opd, and-then, no-more, assigns, land, returns, enter, alloc1, alloc0, params1, pass1, pass0, free1, free0, FmC, sliceTy, calls-from}
+-- its record and the other parameters; or a view is made, and passed on with the others. Nothing is read of a type, so the types are
+-- variables here, and each such function has one of these shapes at its own types. A `&mut` is lent on: its pointer and its length are
+-- taken, and put together again. Assumes `Given`.
+-- Written by tools/view.py.
+use Steps.*
+pub use Steps.{Typed, AllTyped}
 
--- a value of a type
-abbrev pub Typed : Ty → Val → Type 0
-Typed τ v = Holds (hasTy τ v) × WT v
+module _ {M : Type 1} (𝓤 : URA M) (H : Heap 𝓤) (A : Atoms 𝓤) (C : Calls 𝓤 H) (Λ : Loops 𝓤 H) where
+  -- code that calls f and returns what it got, of the one type of τs: what is shown of the call is shown of the code
+  pub record Passes (f : Name) (args : List Val) (τs : List Ty) (code : Fn) (vs : List Val) : Type 2 where
+    pub run : (Pre : SProp 𝓤) (Gives Post : Val → SProp 𝓤) → ent 𝓤 Pre (C f args Gives)
+        → ((u : Val) → ent 𝓤 (Gives u) (mean 𝓤 H A (later (given (AllTyped τs (u ∷ [])) (raw (Post u))))))
+        → ent 𝓤 Pre (WpFn 𝓤 H C Λ code vs Post)
 
--- a `&mut [u32]` at a lifetime, and its machine value
-abbrev pub lent : Lifetime → Ty
-lent ℓ = sliceTy (tyRef ℓ mut (tyInt w32))
+  -- code that calls g, and then f on what it got of the type τV
+  pub record PassesTwice (g : Name) (made : List Val) (τV : Ty) (f : Name) (args : Val → List Val) (τs : List Ty) (code : Fn) (vs : List Val) : Type 2 where
+    pub run : (Pre : SProp 𝓤) (Gives Gives′ Post : Val → SProp 𝓤) → ent 𝓤 Pre (C g made Gives)
+        → ((x : Val) → ent 𝓤 (Gives x) (mean 𝓤 H A (later (given (Typed τV x) (raw (C f (args x) Gives′))))))
+        → ((u : Val) → ent 𝓤 (Gives′ u) (mean 𝓤 H A (later (given (AllTyped τs (u ∷ [])) (raw (Post u))))))
+        → ent 𝓤 Pre (WpFn 𝓤 H C Λ code vs Post)
 
-abbrev pub slice : ℕ → ℕ → ℕ → Val
-slice b o n = vstruct (vcons (vptr b o) (vcons (vint w64 n) vnil))
+  -- code that returns the value u
+  pub record Makes (u : Val) (code : Fn) (vs : List Val) : Type 2 where
+    pub run : (Pre : SProp 𝓤) (Post : Val → SProp 𝓤) → ent 𝓤 Pre (Post u) → ent 𝓤 Pre (WpFn 𝓤 H C Λ code vs Post)
 
--- ---- the view alone
-abbrev pub takes-view : ℕ → Name → (τ τb τB τR : Ty) → Sym → Fn
-takes-view n f τ τb τB τR ν = record {
-  lifetimes = n;
-  outlives = [];
-  params = 1;
-  locals = local τ valueLocal ∷ local (tyStruct ν (tcons τb (tcons τR tnil))) valueLocal ∷ local τB valueLocal ∷ local τR valueLocal ∷ [];
-  body = seq (assign (place 2 []) (rvOpd (copy (place 1 (field 0 ∷ []))))) (seq (assign (place 3 []) (rvOpd (copy (place 1 (field 1 ∷ []))))) (seq (call f (copy (place 2 []) ∷ copy (place 3 []) ∷ []) (place 0 [])) return));
-}
-
-pub takes-view-runs : {M : Type 1} (𝓤 : URA M) (H : Heap 𝓤) (A : Atoms 𝓤) (W : Given 𝓤 H A) (C : Calls 𝓤 H) (Λ : Loops 𝓤 H) → FmC 𝓤 H (W .laws) C
-    → (n : ℕ) (f : Name) (τ τb τB τR : Ty) (ν : Sym) (vb vR : Val)
-    → Typed (tyStruct ν (tcons τb (tcons τR tnil))) (vstruct (vcons vb (vcons vR vnil))) → Typed τB vb → Typed τR vR
-    → (Pre Asks Kept : SProp 𝓤) (Gives Post : Val → SProp 𝓤) → ent 𝓤 Pre (sep 𝓤 Asks Kept) → ent 𝓤 Asks (C f (vb ∷ vR ∷ []) Gives)
-    → ((u : Val) → ent 𝓤 (sep 𝓤 (Gives u) Kept) (mean 𝓤 H A (later (given (Typed τ u) (raw (Post u))))))
-    → ent 𝓤 Pre (WpFn 𝓤 H C Λ (takes-view n f τ τb τB τR ν) (vstruct (vcons vb (vcons vR vnil)) ∷ []) Post)
-takes-view-runs 𝓤 H A W C Λ fm n f τ τb τB τR ν vb vR whole-is b-is R-is Pre Asks Kept Gives Post asks met after =
-    qed W (raw Pre ∷ []) ∵ enter ! C Λ (takes-view n f τ τb τB τR ν) (vstruct (vcons vb (vcons vR vnil)) ∷ []) Post $
-    alloc1 ! (λ at0. alloc1 ! (λ at1. alloc1 ! (λ at2. alloc1 ! (λ at3. alloc0 ! $ params1 ! $
-    pass1 ! (init ! 4 refl whole-is) $ pass0 ! $
-    assigns ! (of-opd ! (load ! (from ! (fld ! refl (stop !))) (look-in ! 4 (sub ! 0 refl (whole !))))) (from ! (stop !)) (init ! 2 refl b-is) $
-    assigns ! (of-opd ! (load ! (from ! (fld ! refl (stop !))) (look-in ! 4 (sub ! 1 refl (whole !))))) (from ! (stop !)) (init ! 0 refl R-is) $
-    move ! (8 ∷ []) $ use1 W (raw Asks ⊛ raw Kept) asks $ split ! $
-    calls-from ! fm (raw Asks) (vb ∷ vR ∷ []) Gives met (and-then ! (load ! (from ! (stop !)) (look ! 4 refl)) (and-then ! (load ! (from ! (stop !)) (look ! 2 refl)) (no-more !))) (λ u.
-    use2 W (later (given (Typed τ u) (raw (Post u)))) (after u) $ await ! tt $ learn ! (λ is.
-    -- [what is promised of u; the locals, from the last, each with its room]
-    land ! (from ! (stop !)) (init ! 7 refl is) $ returns ! (look ! 7 refl) $
-    forget ! 1 refl $ forget ! 3 refl $ forget ! 5 refl $ forget ! 7 refl $
-    move ! (7 ∷ 8 ∷ []) $ free1 ! $ move ! (5 ∷ 6 ∷ []) $ free1 ! $ move ! (3 ∷ 4 ∷ []) $ free1 ! $ move ! (1 ∷ 2 ∷ []) $ free1 ! $ free0 ! $
-    by ! (id⊢ 𝓤 (Post u))))))))
-
--- ---- one value more
-abbrev pub takes-value : ℕ → Name → (τ τb τB τR τ2 : Ty) → Sym → Fn
-takes-value n f τ τb τB τR τ2 ν = record {
-  lifetimes = n;
-  outlives = [];
-  params = 2;
-  locals = local τ valueLocal ∷ local (tyStruct ν (tcons τb (tcons τR tnil))) valueLocal ∷ local τ2 valueLocal ∷ local τB valueLocal ∷ local τR valueLocal ∷ [];
-  body = seq (assign (place 3 []) (rvOpd (copy (place 1 (field 0 ∷ []))))) (seq (assign (place 4 []) (rvOpd (copy (place 1 (field 1 ∷ []))))) (seq (call f (copy (place 3 []) ∷ copy (place 4 []) ∷ copy (place 2 []) ∷ []) (place 0 [])) return));
-}
-
-pub takes-value-runs : {M : Type 1} (𝓤 : URA M) (H : Heap 𝓤) (A : Atoms 𝓤) (W : Given 𝓤 H A) (C : Calls 𝓤 H) (Λ : Loops 𝓤 H) → FmC 𝓤 H (W .laws) C
-    → (n : ℕ) (f : Name) (τ τb τB τR τ2 : Ty) (ν : Sym) (vb vR v2 : Val)
-    → Typed (tyStruct ν (tcons τb (tcons τR tnil))) (vstruct (vcons vb (vcons vR vnil))) → Typed τB vb → Typed τR vR → Typed τ2 v2
-    → (Pre Asks Kept : SProp 𝓤) (Gives Post : Val → SProp 𝓤) → ent 𝓤 Pre (sep 𝓤 Asks Kept) → ent 𝓤 Asks (C f (vb ∷ vR ∷ v2 ∷ []) Gives)
-    → ((u : Val) → ent 𝓤 (sep 𝓤 (Gives u) Kept) (mean 𝓤 H A (later (given (Typed τ u) (raw (Post u))))))
-    → ent 𝓤 Pre (WpFn 𝓤 H C Λ (takes-value n f τ τb τB τR τ2 ν) (vstruct (vcons vb (vcons vR vnil)) ∷ v2 ∷ []) Post)
-takes-value-runs 𝓤 H A W C Λ fm n f τ τb τB τR τ2 ν vb vR v2 whole-is b-is R-is is2 Pre Asks Kept Gives Post asks met after =
-    qed W (raw Pre ∷ []) ∵ enter ! C Λ (takes-value n f τ τb τB τR τ2 ν) (vstruct (vcons vb (vcons vR vnil)) ∷ v2 ∷ []) Post $
-    alloc1 ! (λ at0. alloc1 ! (λ at1. alloc1 ! (λ at2. alloc1 ! (λ at3. alloc1 ! (λ at4. alloc0 ! $ params1 ! $
-    pass1 ! (init ! 6 refl whole-is) $ pass1 ! (init ! 4 refl is2) $ pass0 ! $
-    assigns ! (of-opd ! (load ! (from ! (fld ! refl (stop !))) (look-in ! 6 (sub ! 0 refl (whole !))))) (from ! (stop !)) (init ! 2 refl b-is) $
-    assigns ! (of-opd ! (load ! (from ! (fld ! refl (stop !))) (look-in ! 6 (sub ! 1 refl (whole !))))) (from ! (stop !)) (init ! 0 refl R-is) $
-    move ! (10 ∷ []) $ use1 W (raw Asks ⊛ raw Kept) asks $ split ! $
-    calls-from ! fm (raw Asks) (vb ∷ vR ∷ v2 ∷ []) Gives met (and-then ! (load ! (from ! (stop !)) (look ! 4 refl)) (and-then ! (load ! (from ! (stop !)) (look ! 2 refl)) (and-then ! (load ! (from ! (stop !)) (look ! 6 refl)) (no-more !)))) (λ u.
-    use2 W (later (given (Typed τ u) (raw (Post u)))) (after u) $ await ! tt $ learn ! (λ is.
-    -- [what is promised of u; the locals, from the last, each with its room]
-    land ! (from ! (stop !)) (init ! 9 refl is) $ returns ! (look ! 9 refl) $
-    forget ! 1 refl $ forget ! 3 refl $ forget ! 5 refl $ forget ! 7 refl $ forget ! 9 refl $
-    move ! (9 ∷ 10 ∷ []) $ free1 ! $ move ! (7 ∷ 8 ∷ []) $ free1 ! $ move ! (5 ∷ 6 ∷ []) $ free1 ! $ move ! (3 ∷ 4 ∷ []) $ free1 ! $ move ! (1 ∷ 2 ∷ []) $ free1 ! $ free0 ! $
-    by ! (id⊢ 𝓤 (Post u)))))))))
-
--- ---- the parameters of `draw_char`
-abbrev pub takes-char : ℕ → Name → (τ τb τB τR τ2 τ4 τ5 τ6 τ7 : Ty) → Sym → Lifetime → Fn
-takes-char n f τ τb τB τR τ2 τ4 τ5 τ6 τ7 ν ℓ3 = record {
-  lifetimes = n;
-  outlives = [];
-  params = 7;
-  locals = local τ valueLocal ∷ local (tyStruct ν (tcons τb (tcons τR tnil))) valueLocal ∷ local τ2 valueLocal ∷ local (lent ℓ3) valueLocal ∷ local τ4 valueLocal ∷ local τ5 valueLocal ∷ local τ6 valueLocal ∷ local τ7 valueLocal ∷ local τB valueLocal ∷ local τR valueLocal ∷ local (tyRef erased mut (tyInt w32)) valueLocal ∷ local (lent erased) valueLocal ∷ [];
-  body = seq (assign (place 8 []) (rvOpd (copy (place 1 (field 0 ∷ []))))) (seq (assign (place 9 []) (rvOpd (copy (place 1 (field 1 ∷ []))))) (seq (assign (place 10 []) (addrOf (place 3 (field 0 ∷ deref (tyInt w32) ∷ [])))) (seq (assign (place 11 []) (aggregate (copy (place 10 []) ∷ copy (place 3 (field 1 ∷ [])) ∷ []))) (seq (call f (copy (place 8 []) ∷ copy (place 9 []) ∷ copy (place 2 []) ∷ copy (place 11 []) ∷ copy (place 4 []) ∷ copy (place 5 []) ∷ copy (place 6 []) ∷ copy (place 7 []) ∷ []) (place 0 [])) return))));
-}
-
-pub takes-char-runs : {M : Type 1} (𝓤 : URA M) (H : Heap 𝓤) (A : Atoms 𝓤) (W : Given 𝓤 H A) (C : Calls 𝓤 H) (Λ : Loops 𝓤 H) → FmC 𝓤 H (W .laws) C
-    → (n : ℕ) (f : Name) (τ τb τB τR τ2 τ4 τ5 τ6 τ7 : Ty) (ν : Sym) (ℓ3 : Lifetime) (vb vR v2 v4 v5 v6 v7 : Val) (b3 o3 n3 : ℕ)
-    → Typed (tyStruct ν (tcons τb (tcons τR tnil))) (vstruct (vcons vb (vcons vR vnil))) → Typed τB vb → Typed τR vR → Typed τ2 v2 → Typed τ4 v4 → Typed τ5 v5 → Typed τ6 v6 → Typed τ7 v7 → n3 < 2 ^ 64
-    → (Pre Asks Kept : SProp 𝓤) (Gives Post : Val → SProp 𝓤) → ent 𝓤 Pre (sep 𝓤 Asks Kept) → ent 𝓤 Asks (C f (vb ∷ vR ∷ v2 ∷ (slice b3 o3 n3) ∷ v4 ∷ v5 ∷ v6 ∷ v7 ∷ []) Gives)
-    → ((u : Val) → ent 𝓤 (sep 𝓤 (Gives u) Kept) (mean 𝓤 H A (later (given (Typed τ u) (raw (Post u))))))
-    → ent 𝓤 Pre (WpFn 𝓤 H C Λ (takes-char n f τ τb τB τR τ2 τ4 τ5 τ6 τ7 ν ℓ3) (vstruct (vcons vb (vcons vR vnil)) ∷ v2 ∷ (slice b3 o3 n3) ∷ v4 ∷ v5 ∷ v6 ∷ v7 ∷ []) Post)
-takes-char-runs 𝓤 H A W C Λ fm n f τ τb τB τR τ2 τ4 τ5 τ6 τ7 ν ℓ3 vb vR v2 v4 v5 v6 v7 b3 o3 n3 whole-is b-is R-is is2 is4 is5 is6 is7 fits3 Pre Asks Kept Gives Post asks met after =
-    qed W (raw Pre ∷ []) ∵ enter ! C Λ (takes-char n f τ τb τB τR τ2 τ4 τ5 τ6 τ7 ν ℓ3) (vstruct (vcons vb (vcons vR vnil)) ∷ v2 ∷ (slice b3 o3 n3) ∷ v4 ∷ v5 ∷ v6 ∷ v7 ∷ []) Post $
-    alloc1 ! (λ at0. alloc1 ! (λ at1. alloc1 ! (λ at2. alloc1 ! (λ at3. alloc1 ! (λ at4. alloc1 ! (λ at5. alloc1 ! (λ at6. alloc1 ! (λ at7. alloc1 ! (λ at8. alloc1 ! (λ at9. alloc1 ! (λ at10. alloc1 ! (λ at11. alloc0 ! $ params1 ! $
-    pass1 ! (init ! 20 refl whole-is) $ pass1 ! (init ! 18 refl is2) $ pass1 ! (init ! 16 refl (tt, (tt, (record { fits = fits3 }, tt)))) $ pass1 ! (init ! 14 refl is4) $ pass1 ! (init ! 12 refl is5) $ pass1 ! (init ! 10 refl is6) $ pass1 ! (init ! 8 refl is7) $ pass0 ! $
-    assigns ! (of-opd ! (load ! (from ! (fld ! refl (stop !))) (look-in ! 20 (sub ! 0 refl (whole !))))) (from ! (stop !)) (init ! 6 refl b-is) $
-    assigns ! (of-opd ! (load ! (from ! (fld ! refl (stop !))) (look-in ! 20 (sub ! 1 refl (whole !))))) (from ! (stop !)) (init ! 4 refl R-is) $
-    assigns ! (addr ! (from ! (fld ! refl (hop ! (look-in ! 16 (sub ! 0 refl (whole !))) (stop !))))) (from ! (stop !)) (init ! 2 refl (tt, tt)) $
-    assigns ! (agg ! (and-then ! (load ! (from ! (stop !)) (look ! 2 refl)) (and-then ! (load ! (from ! (fld ! refl (stop !))) (look-in ! 16 (sub ! 1 refl (whole !)))) (no-more !)))) (from ! (stop !)) (init ! 0 refl (tt, (tt, (record { fits = fits3 }, tt)))) $
-    move ! (24 ∷ []) $ use1 W (raw Asks ⊛ raw Kept) asks $ split ! $
-    calls-from ! fm (raw Asks) (vb ∷ vR ∷ v2 ∷ (slice b3 o3 n3) ∷ v4 ∷ v5 ∷ v6 ∷ v7 ∷ []) Gives met (and-then ! (load ! (from ! (stop !)) (look ! 8 refl)) (and-then ! (load ! (from ! (stop !)) (look ! 6 refl)) (and-then ! (load ! (from ! (stop !)) (look ! 20 refl)) (and-then ! (load ! (from ! (stop !)) (look ! 2 refl)) (and-then ! (load ! (from ! (stop !)) (look ! 16 refl)) (and-then ! (load ! (from ! (stop !)) (look ! 14 refl)) (and-then ! (load ! (from ! (stop !)) (look ! 12 refl)) (and-then ! (load ! (from ! (stop !)) (look ! 10 refl)) (no-more !))))))))) (λ u.
-    use2 W (later (given (Typed τ u) (raw (Post u)))) (after u) $ await ! tt $ learn ! (λ is.
-    -- [what is promised of u; the locals, from the last, each with its room]
-    land ! (from ! (stop !)) (init ! 23 refl is) $ returns ! (look ! 23 refl) $
-    forget ! 1 refl $ forget ! 3 refl $ forget ! 5 refl $ forget ! 7 refl $ forget ! 9 refl $ forget ! 11 refl $ forget ! 13 refl $ forget ! 15 refl $ forget ! 17 refl $ forget ! 19 refl $ forget ! 21 refl $ forget ! 23 refl $
-    move ! (23 ∷ 24 ∷ []) $ free1 ! $ move ! (21 ∷ 22 ∷ []) $ free1 ! $ move ! (19 ∷ 20 ∷ []) $ free1 ! $ move ! (17 ∷ 18 ∷ []) $ free1 ! $ move ! (15 ∷ 16 ∷ []) $ free1 ! $ move ! (13 ∷ 14 ∷ []) $ free1 ! $ move ! (11 ∷ 12 ∷ []) $ free1 ! $ move ! (9 ∷ 10 ∷ []) $ free1 ! $ move ! (7 ∷ 8 ∷ []) $ free1 ! $ move ! (5 ∷ 6 ∷ []) $ free1 ! $ move ! (3 ∷ 4 ∷ []) $ free1 ! $ move ! (1 ∷ 2 ∷ []) $ free1 ! $ free0 ! $
-    by ! (id⊢ 𝓤 (Post u))))))))))))))))
-
--- ---- the parameters of `draw_string`
-abbrev pub takes-string : ℕ → Name → (τ τb τB τR τ2 τ4 τ5 τ6 τ7 τ8 : Ty) → Sym → Lifetime → Fn
-takes-string n f τ τb τB τR τ2 τ4 τ5 τ6 τ7 τ8 ν ℓ3 = record {
-  lifetimes = n;
-  outlives = [];
-  params = 8;
-  locals = local τ valueLocal ∷ local (tyStruct ν (tcons τb (tcons τR tnil))) valueLocal ∷ local τ2 valueLocal ∷ local (lent ℓ3) valueLocal ∷ local τ4 valueLocal ∷ local τ5 valueLocal ∷ local τ6 valueLocal ∷ local τ7 valueLocal ∷ local τ8 valueLocal ∷ local τB valueLocal ∷ local τR valueLocal ∷ local (tyRef erased mut (tyInt w32)) valueLocal ∷ local (lent erased) valueLocal ∷ [];
-  body = seq (assign (place 9 []) (rvOpd (copy (place 1 (field 0 ∷ []))))) (seq (assign (place 10 []) (rvOpd (copy (place 1 (field 1 ∷ []))))) (seq (assign (place 11 []) (addrOf (place 3 (field 0 ∷ deref (tyInt w32) ∷ [])))) (seq (assign (place 12 []) (aggregate (copy (place 11 []) ∷ copy (place 3 (field 1 ∷ [])) ∷ []))) (seq (call f (copy (place 9 []) ∷ copy (place 10 []) ∷ copy (place 2 []) ∷ copy (place 12 []) ∷ copy (place 4 []) ∷ copy (place 5 []) ∷ copy (place 6 []) ∷ copy (place 7 []) ∷ copy (place 8 []) ∷ []) (place 0 [])) return))));
-}
-
-pub takes-string-runs : {M : Type 1} (𝓤 : URA M) (H : Heap 𝓤) (A : Atoms 𝓤) (W : Given 𝓤 H A) (C : Calls 𝓤 H) (Λ : Loops 𝓤 H) → FmC 𝓤 H (W .laws) C
-    → (n : ℕ) (f : Name) (τ τb τB τR τ2 τ4 τ5 τ6 τ7 τ8 : Ty) (ν : Sym) (ℓ3 : Lifetime) (vb vR v2 v4 v5 v6 v7 v8 : Val) (b3 o3 n3 : ℕ)
-    → Typed (tyStruct ν (tcons τb (tcons τR tnil))) (vstruct (vcons vb (vcons vR vnil))) → Typed τB vb → Typed τR vR → Typed τ2 v2 → Typed τ4 v4 → Typed τ5 v5 → Typed τ6 v6 → Typed τ7 v7 → Typed τ8 v8 → n3 < 2 ^ 64
-    → (Pre Asks Kept : SProp 𝓤) (Gives Post : Val → SProp 𝓤) → ent 𝓤 Pre (sep 𝓤 Asks Kept) → ent 𝓤 Asks (C f (vb ∷ vR ∷ v2 ∷ (slice b3 o3 n3) ∷ v4 ∷ v5 ∷ v6 ∷ v7 ∷ v8 ∷ []) Gives)
-    → ((u : Val) → ent 𝓤 (sep 𝓤 (Gives u) Kept) (mean 𝓤 H A (later (given (Typed τ u) (raw (Post u))))))
-    → ent 𝓤 Pre (WpFn 𝓤 H C Λ (takes-string n f τ τb τB τR τ2 τ4 τ5 τ6 τ7 τ8 ν ℓ3) (vstruct (vcons vb (vcons vR vnil)) ∷ v2 ∷ (slice b3 o3 n3) ∷ v4 ∷ v5 ∷ v6 ∷ v7 ∷ v8 ∷ []) Post)
-takes-string-runs 𝓤 H A W C Λ fm n f τ τb τB τR τ2 τ4 τ5 τ6 τ7 τ8 ν ℓ3 vb vR v2 v4 v5 v6 v7 v8 b3 o3 n3 whole-is b-is R-is is2 is4 is5 is6 is7 is8 fits3 Pre Asks Kept Gives Post asks met after =
-    qed W (raw Pre ∷ []) ∵ enter ! C Λ (takes-string n f τ τb τB τR τ2 τ4 τ5 τ6 τ7 τ8 ν ℓ3) (vstruct (vcons vb (vcons vR vnil)) ∷ v2 ∷ (slice b3 o3 n3) ∷ v4 ∷ v5 ∷ v6 ∷ v7 ∷ v8 ∷ []) Post $
-    alloc1 ! (λ at0. alloc1 ! (λ at1. alloc1 ! (λ at2. alloc1 ! (λ at3. alloc1 ! (λ at4. alloc1 ! (λ at5. alloc1 ! (λ at6. alloc1 ! (λ at7. alloc1 ! (λ at8. alloc1 ! (λ at9. alloc1 ! (λ at10. alloc1 ! (λ at11. alloc1 ! (λ at12. alloc0 ! $ params1 ! $
-    pass1 ! (init ! 22 refl whole-is) $ pass1 ! (init ! 20 refl is2) $ pass1 ! (init ! 18 refl (tt, (tt, (record { fits = fits3 }, tt)))) $ pass1 ! (init ! 16 refl is4) $ pass1 ! (init ! 14 refl is5) $ pass1 ! (init ! 12 refl is6) $ pass1 ! (init ! 10 refl is7) $ pass1 ! (init ! 8 refl is8) $ pass0 ! $
-    assigns ! (of-opd ! (load ! (from ! (fld ! refl (stop !))) (look-in ! 22 (sub ! 0 refl (whole !))))) (from ! (stop !)) (init ! 6 refl b-is) $
-    assigns ! (of-opd ! (load ! (from ! (fld ! refl (stop !))) (look-in ! 22 (sub ! 1 refl (whole !))))) (from ! (stop !)) (init ! 4 refl R-is) $
-    assigns ! (addr ! (from ! (fld ! refl (hop ! (look-in ! 18 (sub ! 0 refl (whole !))) (stop !))))) (from ! (stop !)) (init ! 2 refl (tt, tt)) $
-    assigns ! (agg ! (and-then ! (load ! (from ! (stop !)) (look ! 2 refl)) (and-then ! (load ! (from ! (fld ! refl (stop !))) (look-in ! 18 (sub ! 1 refl (whole !)))) (no-more !)))) (from ! (stop !)) (init ! 0 refl (tt, (tt, (record { fits = fits3 }, tt)))) $
-    move ! (26 ∷ []) $ use1 W (raw Asks ⊛ raw Kept) asks $ split ! $
-    calls-from ! fm (raw Asks) (vb ∷ vR ∷ v2 ∷ (slice b3 o3 n3) ∷ v4 ∷ v5 ∷ v6 ∷ v7 ∷ v8 ∷ []) Gives met (and-then ! (load ! (from ! (stop !)) (look ! 8 refl)) (and-then ! (load ! (from ! (stop !)) (look ! 6 refl)) (and-then ! (load ! (from ! (stop !)) (look ! 22 refl)) (and-then ! (load ! (from ! (stop !)) (look ! 2 refl)) (and-then ! (load ! (from ! (stop !)) (look ! 18 refl)) (and-then ! (load ! (from ! (stop !)) (look ! 16 refl)) (and-then ! (load ! (from ! (stop !)) (look ! 14 refl)) (and-then ! (load ! (from ! (stop !)) (look ! 12 refl)) (and-then ! (load ! (from ! (stop !)) (look ! 10 refl)) (no-more !)))))))))) (λ u.
-    use2 W (later (given (Typed τ u) (raw (Post u)))) (after u) $ await ! tt $ learn ! (λ is.
-    -- [what is promised of u; the locals, from the last, each with its room]
-    land ! (from ! (stop !)) (init ! 25 refl is) $ returns ! (look ! 25 refl) $
-    forget ! 1 refl $ forget ! 3 refl $ forget ! 5 refl $ forget ! 7 refl $ forget ! 9 refl $ forget ! 11 refl $ forget ! 13 refl $ forget ! 15 refl $ forget ! 17 refl $ forget ! 19 refl $ forget ! 21 refl $ forget ! 23 refl $ forget ! 25 refl $
-    move ! (25 ∷ 26 ∷ []) $ free1 ! $ move ! (23 ∷ 24 ∷ []) $ free1 ! $ move ! (21 ∷ 22 ∷ []) $ free1 ! $ move ! (19 ∷ 20 ∷ []) $ free1 ! $ move ! (17 ∷ 18 ∷ []) $ free1 ! $ move ! (15 ∷ 16 ∷ []) $ free1 ! $ move ! (13 ∷ 14 ∷ []) $ free1 ! $ move ! (11 ∷ 12 ∷ []) $ free1 ! $ move ! (9 ∷ 10 ∷ []) $ free1 ! $ move ! (7 ∷ 8 ∷ []) $ free1 ! $ move ! (5 ∷ 6 ∷ []) $ free1 ! $ move ! (3 ∷ 4 ∷ []) $ free1 ! $ move ! (1 ∷ 2 ∷ []) $ free1 ! $ free0 ! $
-    by ! (id⊢ 𝓤 (Post u)))))))))))))))))
-
--- ---- the view made of a slice and a record
+-- the view is made of a slice and a record
 abbrev pub makes-view : (τb τR : Ty) → Sym → Fn
 makes-view τb τR ν = record {
   lifetimes = 1;
   outlives = [];
   params = 2;
-  locals = local (tyStruct ν (tcons τb (tcons τR tnil))) valueLocal ∷ local τb valueLocal ∷ local τR valueLocal ∷ [];
-  body = seq (assign (place 0 []) (aggregate (copy (place 1 []) ∷ copy (place 2 []) ∷ []))) return;
+  locals = values (view ν τb τR ∷ τb ∷ τR ∷ []);
+  body = seq (assign (place 0 []) (aggregate (here 1 ∷ here 2 ∷ []))) return;
 }
 
-pub makes-view-runs : {M : Type 1} (𝓤 : URA M) (H : Heap 𝓤) (A : Atoms 𝓤) (W : Given 𝓤 H A) (C : Calls 𝓤 H) (Λ : Loops 𝓤 H) (τb τR : Ty) (ν : Sym) (vb vR : Val)
-    → Typed τb vb → Typed τR vR → Typed (tyStruct ν (tcons τb (tcons τR tnil))) (vstruct (vcons vb (vcons vR vnil)))
-    → (Pre : SProp 𝓤) (Post : Val → SProp 𝓤) → ent 𝓤 Pre (Post (vstruct (vcons vb (vcons vR vnil))))
-    → ent 𝓤 Pre (WpFn 𝓤 H C Λ (makes-view τb τR ν) (vb ∷ vR ∷ []) Post)
-makes-view-runs 𝓤 H A W C Λ τb τR ν vb vR b-is R-is whole-is Pre Post after =
-    qed W (raw Pre ∷ []) ∵ enter ! C Λ (makes-view τb τR ν) (vb ∷ vR ∷ []) Post $
-    alloc1 ! (λ at0. alloc1 ! (λ at1. alloc1 ! (λ at2. alloc0 ! $ params1 ! $ pass1 ! (init ! 2 refl b-is) $ pass1 ! (init ! 0 refl R-is) $ pass0 ! $
-    assigns ! (agg ! (and-then ! (load ! (from ! (stop !)) (look ! 2 refl)) (and-then ! (load ! (from ! (stop !)) (look ! 0 refl)) (no-more !)))) (from ! (stop !)) (init ! 4 refl whole-is) $
-    returns ! (look ! 4 refl) $ forget ! 0 refl $ forget ! 2 refl $ forget ! 4 refl $ move ! (4 ∷ 5 ∷ []) $ free1 ! $ move ! (2 ∷ 3 ∷ []) $ free1 ! $ free1 ! $ free0 ! $ by ! after)))
+module _ {M : Type 1} (𝓤 : URA M) (H : Heap 𝓤) (A : Atoms 𝓤) (W : Given 𝓤 H A) (C : Calls 𝓤 H) (Λ : Loops 𝓤 H) where
+  pub makes-view-runs : {τb τR : Ty} {ν : Sym} {vb vR : Val} → Typed τb vb → Typed τR vR → Typed (view ν τb τR) (viewed vb vR)
+      → Makes 𝓤 H A C Λ (viewed vb vR) (makes-view τb τR ν) (vb ∷ vR ∷ [])
+  makes-view-runs {τb} {τR} {ν} {vb} {vR} b-is R-is whole-is = record {
+    run = λ Pre Post after.
+        qed W (raw Pre ∷ []) ∵ enter ! C Λ (makes-view τb τR ν) (vb ∷ vR ∷ []) Post $
+        alloc1 ! (λ at0. alloc1 ! (λ at1. alloc1 ! (λ at2. alloc0 ! $ params1 ! $
+        pass1 ! (init ! 2 refl b-is) $ pass1 ! (init ! 0 refl R-is) $ pass0 ! $
+        assigns ! (agg ! (and-then ! (held ! 2 refl) (and-then ! (held ! 0 refl) (no-more !)))) (from ! (stop !)) (init ! 4 refl whole-is) $
+        returns ! (look ! 4 refl) $ let-go ! 4 refl refl $ let-go ! 2 refl refl $ let-go ! 0 refl refl $ free0 ! $ by ! after)));
+  }
 
--- ---- a view made and passed on, with the parameters of `draw_char`
+abbrev pub takes-view : ℕ → Name → (τ τb τB τR : Ty) → Sym → Fn
+takes-view n f τ τb τB τR ν = record {
+  lifetimes = n;
+  outlives = [];
+  params = 1;
+  locals = values (τ ∷ view ν τb τR ∷ τB ∷ τR ∷ []);
+  body =
+      seq (assign (place 2 []) (rvOpd (part 1 0))) (
+      seq (assign (place 3 []) (rvOpd (part 1 1))) (
+      seq (call f (here 2 ∷ here 3 ∷ []) (place 0 [])) return));
+}
+
+abbrev pub takes-value : ℕ → Name → (τ τb τB τR τ2 : Ty) → Sym → Fn
+takes-value n f τ τb τB τR τ2 ν = record {
+  lifetimes = n;
+  outlives = [];
+  params = 2;
+  locals = values (τ ∷ view ν τb τR ∷ τ2 ∷ τB ∷ τR ∷ []);
+  body =
+      seq (assign (place 3 []) (rvOpd (part 1 0))) (
+      seq (assign (place 4 []) (rvOpd (part 1 1))) (
+      seq (call f (here 3 ∷ here 4 ∷ here 2 ∷ []) (place 0 [])) return));
+}
+
+abbrev pub takes-char : ℕ → Name → (τ τb τB τR τ2 τ4 τ5 τ6 τ7 : Ty) → Sym → Lifetime → Fn
+takes-char n f τ τb τB τR τ2 τ4 τ5 τ6 τ7 ν ℓ3 = record {
+  lifetimes = n;
+  outlives = [];
+  params = 7;
+  locals = values (τ ∷ view ν τb τR ∷ τ2 ∷ lent ℓ3 ∷ τ4 ∷ τ5 ∷ τ6 ∷ τ7 ∷ τB ∷ τR ∷ tyRef erased mut (tyInt w32) ∷ lent erased ∷ []);
+  body =
+      seq (assign (place 8 []) (rvOpd (part 1 0))) (
+      seq (assign (place 9 []) (rvOpd (part 1 1))) (
+      seq (assign (place 10 []) (addrOf (place 3 (field 0 ∷ deref (tyInt w32) ∷ [])))) (
+      seq (assign (place 11 []) (aggregate (here 10 ∷ part 3 1 ∷ []))) (
+      seq (call f (here 8 ∷ here 9 ∷ here 2 ∷ here 11 ∷ here 4 ∷ here 5 ∷ here 6 ∷ here 7 ∷ []) (place 0 [])) return))));
+}
+
+abbrev pub takes-string : ℕ → Name → (τ τb τB τR τ2 τ4 τ5 τ6 τ7 τ8 : Ty) → Sym → Lifetime → Fn
+takes-string n f τ τb τB τR τ2 τ4 τ5 τ6 τ7 τ8 ν ℓ3 = record {
+  lifetimes = n;
+  outlives = [];
+  params = 8;
+  locals = values (τ ∷ view ν τb τR ∷ τ2 ∷ lent ℓ3 ∷ τ4 ∷ τ5 ∷ τ6 ∷ τ7 ∷ τ8 ∷ τB ∷ τR ∷ tyRef erased mut (tyInt w32) ∷ lent erased ∷ []);
+  body =
+      seq (assign (place 9 []) (rvOpd (part 1 0))) (
+      seq (assign (place 10 []) (rvOpd (part 1 1))) (
+      seq (assign (place 11 []) (addrOf (place 3 (field 0 ∷ deref (tyInt w32) ∷ [])))) (
+      seq (assign (place 12 []) (aggregate (here 11 ∷ part 3 1 ∷ []))) (
+      seq (call f (here 9 ∷ here 10 ∷ here 2 ∷ here 12 ∷ here 4 ∷ here 5 ∷ here 6 ∷ here 7 ∷ here 8 ∷ []) (place 0 [])) return))));
+}
+
 abbrev pub char-through : ℕ → Name → Name → (τ τb τR τV τ3 τ5 τ6 τ7 τ8 : Ty) → Lifetime → Fn
 char-through n g f τ τb τR τV τ3 τ5 τ6 τ7 τ8 ℓ4 = record {
   lifetimes = n;
   outlives = [];
   params = 8;
-  locals = local τ valueLocal ∷ local τb valueLocal ∷ local τR valueLocal ∷ local τ3 valueLocal ∷ local (lent ℓ4) valueLocal ∷ local τ5 valueLocal ∷ local τ6 valueLocal ∷ local τ7 valueLocal ∷ local τ8 valueLocal ∷ local τV valueLocal ∷ local (tyRef erased mut (tyInt w32)) valueLocal ∷ local (lent erased) valueLocal ∷ [];
-  body = seq (call g (copy (place 1 []) ∷ copy (place 2 []) ∷ []) (place 9 [])) (seq (assign (place 10 []) (addrOf (place 4 (field 0 ∷ deref (tyInt w32) ∷ [])))) (seq (assign (place 11 []) (aggregate (copy (place 10 []) ∷ copy (place 4 (field 1 ∷ [])) ∷ []))) (seq (call f (copy (place 9 []) ∷ copy (place 3 []) ∷ copy (place 11 []) ∷ copy (place 5 []) ∷ copy (place 6 []) ∷ copy (place 7 []) ∷ copy (place 8 []) ∷ []) (place 0 [])) return)));
+  locals = values (τ ∷ τb ∷ τR ∷ τ3 ∷ lent ℓ4 ∷ τ5 ∷ τ6 ∷ τ7 ∷ τ8 ∷ τV ∷ tyRef erased mut (tyInt w32) ∷ lent erased ∷ []);
+  body =
+      seq (call g (here 1 ∷ here 2 ∷ []) (place 9 [])) (
+      seq (assign (place 10 []) (addrOf (place 4 (field 0 ∷ deref (tyInt w32) ∷ [])))) (
+      seq (assign (place 11 []) (aggregate (here 10 ∷ part 4 1 ∷ []))) (
+      seq (call f (here 9 ∷ here 3 ∷ here 11 ∷ here 5 ∷ here 6 ∷ here 7 ∷ here 8 ∷ []) (place 0 [])) return)));
 }
 
-pub char-through-runs : {M : Type 1} (𝓤 : URA M) (H : Heap 𝓤) (A : Atoms 𝓤) (W : Given 𝓤 H A) (C : Calls 𝓤 H) (Λ : Loops 𝓤 H) → FmC 𝓤 H (W .laws) C
-    → (n : ℕ) (g f : Name) (τ τb τR τV τ3 τ5 τ6 τ7 τ8 : Ty) (ℓ4 : Lifetime) (vb vR v3 v5 v6 v7 v8 : Val) (b4 o4 n4 : ℕ)
-    → Typed τb vb → Typed τR vR → Typed τ3 v3 → Typed τ5 v5 → Typed τ6 v6 → Typed τ7 v7 → Typed τ8 v8 → n4 < 2 ^ 64
-    → (Pre Asks Kept : SProp 𝓤) (Gives : Val → SProp 𝓤) → ent 𝓤 Pre (sep 𝓤 Asks Kept) → ent 𝓤 Asks (C g (vb ∷ vR ∷ []) Gives)
-    → (Asks′ : Val → SProp 𝓤) (Kept′ : SProp 𝓤) (Gives′ : Val → Val → SProp 𝓤) (Post : Val → SProp 𝓤)
-    → ((x : Val) → ent 𝓤 (sep 𝓤 (Gives x) Kept) (mean 𝓤 H A (later (given (Typed τV x) (raw (Asks′ x) ⊛ raw Kept′)))))
-    → ((x : Val) → ent 𝓤 (Asks′ x) (C f (x ∷ v3 ∷ (slice b4 o4 n4) ∷ v5 ∷ v6 ∷ v7 ∷ v8 ∷ []) (Gives′ x)))
-    → ((x u : Val) → ent 𝓤 (sep 𝓤 (Gives′ x u) Kept′) (mean 𝓤 H A (later (given (Typed τ u) (raw (Post u))))))
-    → ent 𝓤 Pre (WpFn 𝓤 H C Λ (char-through n g f τ τb τR τV τ3 τ5 τ6 τ7 τ8 ℓ4) (vb ∷ vR ∷ v3 ∷ (slice b4 o4 n4) ∷ v5 ∷ v6 ∷ v7 ∷ v8 ∷ []) Post)
-char-through-runs 𝓤 H A W C Λ fm n g f τ τb τR τV τ3 τ5 τ6 τ7 τ8 ℓ4 vb vR v3 v5 v6 v7 v8 b4 o4 n4 b-is R-is is3 is5 is6 is7 is8 fits4 Pre Asks Kept Gives asks met Asks′ Kept′ Gives′ Post between met′ after =
-    qed W (raw Pre ∷ []) ∵ enter ! C Λ (char-through n g f τ τb τR τV τ3 τ5 τ6 τ7 τ8 ℓ4) (vb ∷ vR ∷ v3 ∷ (slice b4 o4 n4) ∷ v5 ∷ v6 ∷ v7 ∷ v8 ∷ []) Post $
-    alloc1 ! (λ at0. alloc1 ! (λ at1. alloc1 ! (λ at2. alloc1 ! (λ at3. alloc1 ! (λ at4. alloc1 ! (λ at5. alloc1 ! (λ at6. alloc1 ! (λ at7. alloc1 ! (λ at8. alloc1 ! (λ at9. alloc1 ! (λ at10. alloc1 ! (λ at11. alloc0 ! $ params1 ! $
-    pass1 ! (init ! 20 refl b-is) $ pass1 ! (init ! 18 refl R-is) $ pass1 ! (init ! 16 refl is3) $ pass1 ! (init ! 14 refl (tt, (tt, (record { fits = fits4 }, tt)))) $ pass1 ! (init ! 12 refl is5) $ pass1 ! (init ! 10 refl is6) $ pass1 ! (init ! 8 refl is7) $ pass1 ! (init ! 6 refl is8) $ pass0 ! $
-    move ! (24 ∷ []) $ use1 W (raw Asks ⊛ raw Kept) asks $ split ! $
-    calls-from ! fm (raw Asks) (vb ∷ vR ∷ []) Gives met (and-then ! (load ! (from ! (stop !)) (look ! 22 refl)) (and-then ! (load ! (from ! (stop !)) (look ! 20 refl)) (no-more !))) (λ x.
-    use2 W (later (given (Typed τV x) (raw (Asks′ x) ⊛ raw Kept′))) (between x) $ await ! tt $ learn ! (λ x-is.
-    -- [what the second call asks, and what is kept; the locals, from the last, each with its room]
-    land ! (from ! (stop !)) (init ! 5 refl x-is) $
-    assigns ! (addr ! (from ! (fld ! refl (hop ! (look-in ! 15 (sub ! 0 refl (whole !))) (stop !))))) (from ! (stop !)) (init ! 3 refl (tt, tt)) $
-    assigns ! (agg ! (and-then ! (load ! (from ! (stop !)) (look ! 3 refl)) (and-then ! (load ! (from ! (fld ! refl (stop !))) (look-in ! 15 (sub ! 1 refl (whole !)))) (no-more !)))) (from ! (stop !)) (init ! 1 refl (tt, (tt, (record { fits = fits4 }, tt)))) $
-    split ! $ calls-from ! fm (raw (Asks′ x)) (x ∷ v3 ∷ (slice b4 o4 n4) ∷ v5 ∷ v6 ∷ v7 ∷ v8 ∷ []) (Gives′ x) (met′ x) (and-then ! (load ! (from ! (stop !)) (look ! 6 refl)) (and-then ! (load ! (from ! (stop !)) (look ! 18 refl)) (and-then ! (load ! (from ! (stop !)) (look ! 2 refl)) (and-then ! (load ! (from ! (stop !)) (look ! 14 refl)) (and-then ! (load ! (from ! (stop !)) (look ! 12 refl)) (and-then ! (load ! (from ! (stop !)) (look ! 10 refl)) (and-then ! (load ! (from ! (stop !)) (look ! 8 refl)) (no-more !)))))))) (λ u.
-    use2 W (later (given (Typed τ u) (raw (Post u)))) (after x u) $ await ! tt $ learn ! (λ is.
-    land ! (from ! (stop !)) (init ! 23 refl is) $ returns ! (look ! 23 refl) $
-    forget ! 1 refl $ forget ! 3 refl $ forget ! 5 refl $ forget ! 7 refl $ forget ! 9 refl $ forget ! 11 refl $ forget ! 13 refl $ forget ! 15 refl $ forget ! 17 refl $ forget ! 19 refl $ forget ! 21 refl $ forget ! 23 refl $
-    move ! (23 ∷ 24 ∷ []) $ free1 ! $ move ! (21 ∷ 22 ∷ []) $ free1 ! $ move ! (19 ∷ 20 ∷ []) $ free1 ! $ move ! (17 ∷ 18 ∷ []) $ free1 ! $ move ! (15 ∷ 16 ∷ []) $ free1 ! $ move ! (13 ∷ 14 ∷ []) $ free1 ! $ move ! (11 ∷ 12 ∷ []) $ free1 ! $ move ! (9 ∷ 10 ∷ []) $ free1 ! $ move ! (7 ∷ 8 ∷ []) $ free1 ! $ move ! (5 ∷ 6 ∷ []) $ free1 ! $ move ! (3 ∷ 4 ∷ []) $ free1 ! $ move ! (1 ∷ 2 ∷ []) $ free1 ! $ free0 ! $
-    by ! (id⊢ 𝓤 (Post u))))))))))))))))))
-
--- ---- a view made and passed on, with the parameters of `draw_string`
 abbrev pub string-through : ℕ → Name → Name → (τ τb τR τV τ3 τ5 τ6 τ7 τ8 τ9 : Ty) → Lifetime → Fn
 string-through n g f τ τb τR τV τ3 τ5 τ6 τ7 τ8 τ9 ℓ4 = record {
   lifetimes = n;
   outlives = [];
   params = 9;
-  locals = local τ valueLocal ∷ local τb valueLocal ∷ local τR valueLocal ∷ local τ3 valueLocal ∷ local (lent ℓ4) valueLocal ∷ local τ5 valueLocal ∷ local τ6 valueLocal ∷ local τ7 valueLocal ∷ local τ8 valueLocal ∷ local τ9 valueLocal ∷ local τV valueLocal ∷ local (tyRef erased mut (tyInt w32)) valueLocal ∷ local (lent erased) valueLocal ∷ [];
-  body = seq (call g (copy (place 1 []) ∷ copy (place 2 []) ∷ []) (place 10 [])) (seq (assign (place 11 []) (addrOf (place 4 (field 0 ∷ deref (tyInt w32) ∷ [])))) (seq (assign (place 12 []) (aggregate (copy (place 11 []) ∷ copy (place 4 (field 1 ∷ [])) ∷ []))) (seq (call f (copy (place 10 []) ∷ copy (place 3 []) ∷ copy (place 12 []) ∷ copy (place 5 []) ∷ copy (place 6 []) ∷ copy (place 7 []) ∷ copy (place 8 []) ∷ copy (place 9 []) ∷ []) (place 0 [])) return)));
+  locals = values (τ ∷ τb ∷ τR ∷ τ3 ∷ lent ℓ4 ∷ τ5 ∷ τ6 ∷ τ7 ∷ τ8 ∷ τ9 ∷ τV ∷ tyRef erased mut (tyInt w32) ∷ lent erased ∷ []);
+  body =
+      seq (call g (here 1 ∷ here 2 ∷ []) (place 10 [])) (
+      seq (assign (place 11 []) (addrOf (place 4 (field 0 ∷ deref (tyInt w32) ∷ [])))) (
+      seq (assign (place 12 []) (aggregate (here 11 ∷ part 4 1 ∷ []))) (
+      seq (call f (here 10 ∷ here 3 ∷ here 12 ∷ here 5 ∷ here 6 ∷ here 7 ∷ here 8 ∷ here 9 ∷ []) (place 0 [])) return)));
 }
 
-pub string-through-runs : {M : Type 1} (𝓤 : URA M) (H : Heap 𝓤) (A : Atoms 𝓤) (W : Given 𝓤 H A) (C : Calls 𝓤 H) (Λ : Loops 𝓤 H) → FmC 𝓤 H (W .laws) C
-    → (n : ℕ) (g f : Name) (τ τb τR τV τ3 τ5 τ6 τ7 τ8 τ9 : Ty) (ℓ4 : Lifetime) (vb vR v3 v5 v6 v7 v8 v9 : Val) (b4 o4 n4 : ℕ)
-    → Typed τb vb → Typed τR vR → Typed τ3 v3 → Typed τ5 v5 → Typed τ6 v6 → Typed τ7 v7 → Typed τ8 v8 → Typed τ9 v9 → n4 < 2 ^ 64
-    → (Pre Asks Kept : SProp 𝓤) (Gives : Val → SProp 𝓤) → ent 𝓤 Pre (sep 𝓤 Asks Kept) → ent 𝓤 Asks (C g (vb ∷ vR ∷ []) Gives)
-    → (Asks′ : Val → SProp 𝓤) (Kept′ : SProp 𝓤) (Gives′ : Val → Val → SProp 𝓤) (Post : Val → SProp 𝓤)
-    → ((x : Val) → ent 𝓤 (sep 𝓤 (Gives x) Kept) (mean 𝓤 H A (later (given (Typed τV x) (raw (Asks′ x) ⊛ raw Kept′)))))
-    → ((x : Val) → ent 𝓤 (Asks′ x) (C f (x ∷ v3 ∷ (slice b4 o4 n4) ∷ v5 ∷ v6 ∷ v7 ∷ v8 ∷ v9 ∷ []) (Gives′ x)))
-    → ((x u : Val) → ent 𝓤 (sep 𝓤 (Gives′ x u) Kept′) (mean 𝓤 H A (later (given (Typed τ u) (raw (Post u))))))
-    → ent 𝓤 Pre (WpFn 𝓤 H C Λ (string-through n g f τ τb τR τV τ3 τ5 τ6 τ7 τ8 τ9 ℓ4) (vb ∷ vR ∷ v3 ∷ (slice b4 o4 n4) ∷ v5 ∷ v6 ∷ v7 ∷ v8 ∷ v9 ∷ []) Post)
-string-through-runs 𝓤 H A W C Λ fm n g f τ τb τR τV τ3 τ5 τ6 τ7 τ8 τ9 ℓ4 vb vR v3 v5 v6 v7 v8 v9 b4 o4 n4 b-is R-is is3 is5 is6 is7 is8 is9 fits4 Pre Asks Kept Gives asks met Asks′ Kept′ Gives′ Post between met′ after =
-    qed W (raw Pre ∷ []) ∵ enter ! C Λ (string-through n g f τ τb τR τV τ3 τ5 τ6 τ7 τ8 τ9 ℓ4) (vb ∷ vR ∷ v3 ∷ (slice b4 o4 n4) ∷ v5 ∷ v6 ∷ v7 ∷ v8 ∷ v9 ∷ []) Post $
-    alloc1 ! (λ at0. alloc1 ! (λ at1. alloc1 ! (λ at2. alloc1 ! (λ at3. alloc1 ! (λ at4. alloc1 ! (λ at5. alloc1 ! (λ at6. alloc1 ! (λ at7. alloc1 ! (λ at8. alloc1 ! (λ at9. alloc1 ! (λ at10. alloc1 ! (λ at11. alloc1 ! (λ at12. alloc0 ! $ params1 ! $
-    pass1 ! (init ! 22 refl b-is) $ pass1 ! (init ! 20 refl R-is) $ pass1 ! (init ! 18 refl is3) $ pass1 ! (init ! 16 refl (tt, (tt, (record { fits = fits4 }, tt)))) $ pass1 ! (init ! 14 refl is5) $ pass1 ! (init ! 12 refl is6) $ pass1 ! (init ! 10 refl is7) $ pass1 ! (init ! 8 refl is8) $ pass1 ! (init ! 6 refl is9) $ pass0 ! $
-    move ! (26 ∷ []) $ use1 W (raw Asks ⊛ raw Kept) asks $ split ! $
-    calls-from ! fm (raw Asks) (vb ∷ vR ∷ []) Gives met (and-then ! (load ! (from ! (stop !)) (look ! 24 refl)) (and-then ! (load ! (from ! (stop !)) (look ! 22 refl)) (no-more !))) (λ x.
-    use2 W (later (given (Typed τV x) (raw (Asks′ x) ⊛ raw Kept′))) (between x) $ await ! tt $ learn ! (λ x-is.
-    -- [what the second call asks, and what is kept; the locals, from the last, each with its room]
-    land ! (from ! (stop !)) (init ! 5 refl x-is) $
-    assigns ! (addr ! (from ! (fld ! refl (hop ! (look-in ! 17 (sub ! 0 refl (whole !))) (stop !))))) (from ! (stop !)) (init ! 3 refl (tt, tt)) $
-    assigns ! (agg ! (and-then ! (load ! (from ! (stop !)) (look ! 3 refl)) (and-then ! (load ! (from ! (fld ! refl (stop !))) (look-in ! 17 (sub ! 1 refl (whole !)))) (no-more !)))) (from ! (stop !)) (init ! 1 refl (tt, (tt, (record { fits = fits4 }, tt)))) $
-    split ! $ calls-from ! fm (raw (Asks′ x)) (x ∷ v3 ∷ (slice b4 o4 n4) ∷ v5 ∷ v6 ∷ v7 ∷ v8 ∷ v9 ∷ []) (Gives′ x) (met′ x) (and-then ! (load ! (from ! (stop !)) (look ! 6 refl)) (and-then ! (load ! (from ! (stop !)) (look ! 20 refl)) (and-then ! (load ! (from ! (stop !)) (look ! 2 refl)) (and-then ! (load ! (from ! (stop !)) (look ! 16 refl)) (and-then ! (load ! (from ! (stop !)) (look ! 14 refl)) (and-then ! (load ! (from ! (stop !)) (look ! 12 refl)) (and-then ! (load ! (from ! (stop !)) (look ! 10 refl)) (and-then ! (load ! (from ! (stop !)) (look ! 8 refl)) (no-more !))))))))) (λ u.
-    use2 W (later (given (Typed τ u) (raw (Post u)))) (after x u) $ await ! tt $ learn ! (λ is.
-    land ! (from ! (stop !)) (init ! 25 refl is) $ returns ! (look ! 25 refl) $
-    forget ! 1 refl $ forget ! 3 refl $ forget ! 5 refl $ forget ! 7 refl $ forget ! 9 refl $ forget ! 11 refl $ forget ! 13 refl $ forget ! 15 refl $ forget ! 17 refl $ forget ! 19 refl $ forget ! 21 refl $ forget ! 23 refl $ forget ! 25 refl $
-    move ! (25 ∷ 26 ∷ []) $ free1 ! $ move ! (23 ∷ 24 ∷ []) $ free1 ! $ move ! (21 ∷ 22 ∷ []) $ free1 ! $ move ! (19 ∷ 20 ∷ []) $ free1 ! $ move ! (17 ∷ 18 ∷ []) $ free1 ! $ move ! (15 ∷ 16 ∷ []) $ free1 ! $ move ! (13 ∷ 14 ∷ []) $ free1 ! $ move ! (11 ∷ 12 ∷ []) $ free1 ! $ move ! (9 ∷ 10 ∷ []) $ free1 ! $ move ! (7 ∷ 8 ∷ []) $ free1 ! $ move ! (5 ∷ 6 ∷ []) $ free1 ! $ move ! (3 ∷ 4 ∷ []) $ free1 ! $ move ! (1 ∷ 2 ∷ []) $ free1 ! $ free0 ! $
-    by ! (id⊢ 𝓤 (Post u)))))))))))))))))))
+module _ {M : Type 1} (𝓤 : URA M) (H : Heap 𝓤) (A : Atoms 𝓤) (W : Given 𝓤 H A)
+    (C : Calls 𝓤 H) (Λ : Loops 𝓤 H) (fm : FmC 𝓤 H (W .laws) C) where
+  pub takes-view-runs : {n : ℕ} {f : Name} {τ τb τB τR : Ty} {ν : Sym} {vb vR : Val}
+      → Typed (view ν τb τR) (viewed vb vR) → Typed τB vb → Typed τR vR
+      → AllTyped ([]) ([])
+      → Passes 𝓤 H A C Λ f (vb ∷ vR ∷ []) (τ ∷ []) (takes-view n f τ τb τB τR ν) (viewed vb vR ∷ [])
+  takes-view-runs {n} {f} {τ} {τb} {τB} {τR} {ν} {vb} {vR} whole-is b-is R-is is =
+      record {
+        run = λ Pre Gives Post asks after.
+            qed W (raw Pre ∷ []) ∵ enter ! C Λ (takes-view n f τ τb τB τR ν) (viewed vb vR ∷ []) Post $
+            alloc1 ! (λ at0. alloc1 ! (λ at1. alloc1 ! (λ at2. alloc1 ! (λ at3. alloc0 ! $ params1 ! $
+            pass1 ! (init ! 4 refl whole-is) $ pass0 ! $
+            assigns ! (of-opd ! (load ! (from ! (fld ! refl (stop !))) (look-in ! 4 (sub ! 0 refl (whole !))))) (from ! (stop !)) (init ! 2 refl b-is) $
+            assigns ! (of-opd ! (load ! (from ! (fld ! refl (stop !))) (look-in ! 4 (sub ! 1 refl (whole !))))) (from ! (stop !)) (init ! 0 refl R-is) $
+            move ! (8 ∷ []) $
+            calls-from ! fm (raw (Pre)) (vb ∷ vR ∷ []) Gives asks (and-then ! (held ! 3 refl) (and-then ! (held ! 1 refl) (no-more !))) (λ u.
+            use1 W (later (given (AllTyped (τ ∷ []) (u ∷ [])) (raw (Post u)))) (after u) $ await ! tt $ learn ! (λ u-is.
+            land ! (from ! (stop !)) (init ! 7 refl (u-is .0)) $ returns ! (look ! 7 refl) $
+            let-go ! 7 refl refl $ let-go ! 5 refl refl $ let-go ! 3 refl refl $ let-go ! 1 refl refl $
+            free0 ! $ by ! (id⊢ 𝓤 (Post u))))))));
+      }
+
+  pub takes-value-runs : {n : ℕ} {f : Name} {τ τb τB τR τ2 : Ty} {ν : Sym} {vb vR v2 : Val}
+      → Typed (view ν τb τR) (viewed vb vR) → Typed τB vb → Typed τR vR
+      → AllTyped (τ2 ∷ []) (v2 ∷ [])
+      → Passes 𝓤 H A C Λ f (vb ∷ vR ∷ v2 ∷ []) (τ ∷ []) (takes-value n f τ τb τB τR τ2 ν) (viewed vb vR ∷ v2 ∷ [])
+  takes-value-runs {n} {f} {τ} {τb} {τB} {τR} {τ2} {ν} {vb} {vR} {v2} whole-is b-is R-is is =
+      record {
+        run = λ Pre Gives Post asks after.
+            qed W (raw Pre ∷ []) ∵ enter ! C Λ (takes-value n f τ τb τB τR τ2 ν) (viewed vb vR ∷ v2 ∷ []) Post $
+            alloc1 ! (λ at0. alloc1 ! (λ at1. alloc1 ! (λ at2. alloc1 ! (λ at3. alloc1 ! (λ at4. alloc0 ! $ params1 ! $
+            pass1 ! (init ! 6 refl whole-is) $ pass1 ! (init ! 4 refl (is .0)) $ pass0 ! $
+            assigns ! (of-opd ! (load ! (from ! (fld ! refl (stop !))) (look-in ! 6 (sub ! 0 refl (whole !))))) (from ! (stop !)) (init ! 2 refl b-is) $
+            assigns ! (of-opd ! (load ! (from ! (fld ! refl (stop !))) (look-in ! 6 (sub ! 1 refl (whole !))))) (from ! (stop !)) (init ! 0 refl R-is) $
+            move ! (10 ∷ []) $
+            calls-from ! fm (raw (Pre)) (vb ∷ vR ∷ v2 ∷ []) Gives asks (and-then ! (held ! 3 refl) (and-then ! (held ! 1 refl)
+            (and-then ! (held ! 5 refl) (no-more !)))) (λ u.
+            use1 W (later (given (AllTyped (τ ∷ []) (u ∷ [])) (raw (Post u)))) (after u) $ await ! tt $ learn ! (λ u-is.
+            land ! (from ! (stop !)) (init ! 9 refl (u-is .0)) $ returns ! (look ! 9 refl) $
+            let-go ! 9 refl refl $ let-go ! 7 refl refl $ let-go ! 5 refl refl $ let-go ! 3 refl refl $ let-go ! 1 refl refl $
+            free0 ! $ by ! (id⊢ 𝓤 (Post u)))))))));
+      }
+
+  pub takes-char-runs : {n : ℕ} {f : Name} {τ τb τB τR τ2 τ4 τ5 τ6 τ7 : Ty} {ν : Sym} {ℓ3 : Lifetime} {vb vR v2 v4 v5 v6 v7 : Val} {b3 o3 n3 : ℕ}
+      → Typed (view ν τb τR) (viewed vb vR) → Typed τB vb → Typed τR vR
+      → AllTyped (τ2 ∷ lent ℓ3 ∷ τ4 ∷ τ5 ∷ τ6 ∷ τ7 ∷ []) (v2 ∷ slice b3 o3 n3 ∷ v4 ∷ v5 ∷ v6 ∷ v7 ∷ [])
+      → Passes 𝓤 H A C Λ f (vb ∷ vR ∷ v2 ∷ slice b3 o3 n3 ∷ v4 ∷ v5 ∷ v6 ∷ v7 ∷ []) (τ ∷ []) (takes-char n f τ τb τB τR τ2 τ4 τ5 τ6 τ7 ν ℓ3)
+      (viewed vb vR ∷ v2 ∷ slice b3 o3 n3 ∷ v4 ∷ v5 ∷ v6 ∷ v7 ∷ [])
+  takes-char-runs {n} {f} {τ} {τb} {τB} {τR} {τ2} {τ4} {τ5} {τ6} {τ7} {ν} {ℓ3} {vb} {vR} {v2} {v4} {v5} {v6} {v7} {b3} {o3} {n3} whole-is b-is R-is is
+      =
+      record {
+        run = λ Pre Gives Post asks after.
+            qed W (raw Pre ∷ []) ∵ enter ! C Λ (takes-char n f τ τb τB τR τ2 τ4 τ5 τ6 τ7 ν ℓ3)
+            (viewed vb vR ∷ v2 ∷ slice b3 o3 n3 ∷ v4 ∷ v5 ∷ v6 ∷ v7 ∷ []) Post $
+            alloc1 ! (λ at0. alloc1 ! (λ at1. alloc1 ! (λ at2. alloc1 ! (λ at3. alloc1 ! (λ at4. alloc1 ! (λ at5. alloc1 ! (λ at6. alloc1 ! (λ at7.
+            alloc1 ! (λ at8. alloc1 ! (λ at9. alloc1 ! (λ at10. alloc1 ! (λ at11. alloc0 ! $ params1 ! $
+            pass1 ! (init ! 20 refl whole-is) $ pass1 ! (init ! 18 refl (is .0)) $ pass1 ! (init ! 16 refl (is .1 .0)) $
+            pass1 ! (init ! 14 refl (is .1 .1 .0)) $ pass1 ! (init ! 12 refl (is .1 .1 .1 .0)) $ pass1 ! (init ! 10 refl (is .1 .1 .1 .1 .0)) $
+            pass1 ! (init ! 8 refl (is .1 .1 .1 .1 .1 .0)) $ pass0 ! $
+            assigns ! (of-opd ! (load ! (from ! (fld ! refl (stop !))) (look-in ! 20 (sub ! 0 refl (whole !))))) (from ! (stop !)) (init ! 6 refl b-is) $
+            assigns ! (of-opd ! (load ! (from ! (fld ! refl (stop !))) (look-in ! 20 (sub ! 1 refl (whole !))))) (from ! (stop !)) (init ! 4 refl R-is) $
+            assigns ! (addr ! (from ! (fld ! refl (hop ! (look-in ! 16 (sub ! 0 refl (whole !))) (stop !)))))
+            (from ! (stop !)) (init ! 2 refl (tt, tt)) $
+            assigns ! (agg ! (and-then ! (held ! 2 refl)
+            (and-then ! (load ! (from ! (fld ! refl (stop !))) (look-in ! 16 (sub ! 1 refl (whole !)))) (no-more !))))
+            (from ! (stop !)) (init ! 0 refl (tt, is .1 .0 .1)) $
+            move ! (24 ∷ []) $
+            calls-from ! fm (raw (Pre)) (vb ∷ vR ∷ v2 ∷ slice b3 o3 n3 ∷ v4 ∷ v5 ∷ v6 ∷ v7 ∷ []) Gives asks (and-then ! (held ! 7 refl)
+            (and-then ! (held ! 5 refl) (and-then ! (held ! 19 refl) (and-then ! (held ! 1 refl) (and-then ! (held ! 15 refl)
+            (and-then ! (held ! 13 refl) (and-then ! (held ! 11 refl) (and-then ! (held ! 9 refl) (no-more !))))))))) (λ u.
+            use1 W (later (given (AllTyped (τ ∷ []) (u ∷ [])) (raw (Post u)))) (after u) $ await ! tt $ learn ! (λ u-is.
+            land ! (from ! (stop !)) (init ! 23 refl (u-is .0)) $ returns ! (look ! 23 refl) $
+            let-go ! 23 refl refl $ let-go ! 21 refl refl $ let-go ! 19 refl refl $ let-go ! 17 refl refl $ let-go ! 15 refl refl $
+            let-go ! 13 refl refl $ let-go ! 11 refl refl $ let-go ! 9 refl refl $ let-go ! 7 refl refl $ let-go ! 5 refl refl $
+            let-go ! 3 refl refl $ let-go ! 1 refl refl $
+            free0 ! $ by ! (id⊢ 𝓤 (Post u))))))))))))))));
+      }
+
+  pub takes-string-runs : {n : ℕ} {f : Name} {τ τb τB τR τ2 τ4 τ5 τ6 τ7 τ8 : Ty} {ν : Sym} {ℓ3 : Lifetime} {vb vR v2 v4 v5 v6 v7 v8 : Val}
+      {b3 o3 n3 : ℕ}
+      → Typed (view ν τb τR) (viewed vb vR) → Typed τB vb → Typed τR vR
+      → AllTyped (τ2 ∷ lent ℓ3 ∷ τ4 ∷ τ5 ∷ τ6 ∷ τ7 ∷ τ8 ∷ []) (v2 ∷ slice b3 o3 n3 ∷ v4 ∷ v5 ∷ v6 ∷ v7 ∷ v8 ∷ [])
+      → Passes 𝓤 H A C Λ f (vb ∷ vR ∷ v2 ∷ slice b3 o3 n3 ∷ v4 ∷ v5 ∷ v6 ∷ v7 ∷ v8 ∷ []) (τ ∷ []) (takes-string n f τ τb τB τR τ2 τ4 τ5 τ6 τ7 τ8 ν ℓ3)
+      (viewed vb vR ∷ v2 ∷ slice b3 o3 n3 ∷ v4 ∷ v5 ∷ v6 ∷ v7 ∷ v8 ∷ [])
+  takes-string-runs {n} {f} {τ} {τb} {τB} {τR} {τ2} {τ4} {τ5} {τ6} {τ7} {τ8} {ν} {ℓ3} {vb} {vR} {v2} {v4} {v5} {v6} {v7} {v8} {b3} {o3} {n3}
+      whole-is b-is R-is is =
+      record {
+        run = λ Pre Gives Post asks after.
+            qed W (raw Pre ∷ []) ∵ enter ! C Λ (takes-string n f τ τb τB τR τ2 τ4 τ5 τ6 τ7 τ8 ν ℓ3)
+            (viewed vb vR ∷ v2 ∷ slice b3 o3 n3 ∷ v4 ∷ v5 ∷ v6 ∷ v7 ∷ v8 ∷ []) Post $
+            alloc1 ! (λ at0. alloc1 ! (λ at1. alloc1 ! (λ at2. alloc1 ! (λ at3. alloc1 ! (λ at4. alloc1 ! (λ at5. alloc1 ! (λ at6. alloc1 ! (λ at7.
+            alloc1 ! (λ at8. alloc1 ! (λ at9. alloc1 ! (λ at10. alloc1 ! (λ at11. alloc1 ! (λ at12. alloc0 ! $ params1 ! $
+            pass1 ! (init ! 22 refl whole-is) $ pass1 ! (init ! 20 refl (is .0)) $ pass1 ! (init ! 18 refl (is .1 .0)) $
+            pass1 ! (init ! 16 refl (is .1 .1 .0)) $ pass1 ! (init ! 14 refl (is .1 .1 .1 .0)) $ pass1 ! (init ! 12 refl (is .1 .1 .1 .1 .0)) $
+            pass1 ! (init ! 10 refl (is .1 .1 .1 .1 .1 .0)) $ pass1 ! (init ! 8 refl (is .1 .1 .1 .1 .1 .1 .0)) $ pass0 ! $
+            assigns ! (of-opd ! (load ! (from ! (fld ! refl (stop !))) (look-in ! 22 (sub ! 0 refl (whole !))))) (from ! (stop !)) (init ! 6 refl b-is) $
+            assigns ! (of-opd ! (load ! (from ! (fld ! refl (stop !))) (look-in ! 22 (sub ! 1 refl (whole !))))) (from ! (stop !)) (init ! 4 refl R-is) $
+            assigns ! (addr ! (from ! (fld ! refl (hop ! (look-in ! 18 (sub ! 0 refl (whole !))) (stop !)))))
+            (from ! (stop !)) (init ! 2 refl (tt, tt)) $
+            assigns ! (agg ! (and-then ! (held ! 2 refl)
+            (and-then ! (load ! (from ! (fld ! refl (stop !))) (look-in ! 18 (sub ! 1 refl (whole !)))) (no-more !))))
+            (from ! (stop !)) (init ! 0 refl (tt, is .1 .0 .1)) $
+            move ! (26 ∷ []) $
+            calls-from ! fm (raw (Pre)) (vb ∷ vR ∷ v2 ∷ slice b3 o3 n3 ∷ v4 ∷ v5 ∷ v6 ∷ v7 ∷ v8 ∷ []) Gives asks (and-then ! (held ! 7 refl)
+            (and-then ! (held ! 5 refl) (and-then ! (held ! 21 refl) (and-then ! (held ! 1 refl) (and-then ! (held ! 17 refl)
+            (and-then ! (held ! 15 refl) (and-then ! (held ! 13 refl) (and-then ! (held ! 11 refl) (and-then ! (held ! 9 refl) (no-more !))))))))))
+            (λ u.
+            use1 W (later (given (AllTyped (τ ∷ []) (u ∷ [])) (raw (Post u)))) (after u) $ await ! tt $ learn ! (λ u-is.
+            land ! (from ! (stop !)) (init ! 25 refl (u-is .0)) $ returns ! (look ! 25 refl) $
+            let-go ! 25 refl refl $ let-go ! 23 refl refl $ let-go ! 21 refl refl $ let-go ! 19 refl refl $ let-go ! 17 refl refl $
+            let-go ! 15 refl refl $ let-go ! 13 refl refl $ let-go ! 11 refl refl $ let-go ! 9 refl refl $ let-go ! 7 refl refl $
+            let-go ! 5 refl refl $ let-go ! 3 refl refl $ let-go ! 1 refl refl $
+            free0 ! $ by ! (id⊢ 𝓤 (Post u)))))))))))))))));
+      }
+
+  pub char-through-runs : {n : ℕ} {g f : Name} {τ τb τR τV τ3 τ5 τ6 τ7 τ8 : Ty} {ℓ4 : Lifetime} {vb vR v3 v5 v6 v7 v8 : Val} {b4 o4 n4 : ℕ}
+      → Typed τb vb → Typed τR vR
+      → AllTyped (τ3 ∷ lent ℓ4 ∷ τ5 ∷ τ6 ∷ τ7 ∷ τ8 ∷ []) (v3 ∷ slice b4 o4 n4 ∷ v5 ∷ v6 ∷ v7 ∷ v8 ∷ [])
+      → PassesTwice 𝓤 H A C Λ g (vb ∷ vR ∷ []) τV f (λ x. x ∷ v3 ∷ slice b4 o4 n4 ∷ v5 ∷ v6 ∷ v7 ∷ v8 ∷ []) (τ ∷ [])
+      (char-through n g f τ τb τR τV τ3 τ5 τ6 τ7 τ8 ℓ4) (vb ∷ vR ∷ v3 ∷ slice b4 o4 n4 ∷ v5 ∷ v6 ∷ v7 ∷ v8 ∷ [])
+  char-through-runs {n} {g} {f} {τ} {τb} {τR} {τV} {τ3} {τ5} {τ6} {τ7} {τ8} {ℓ4} {vb} {vR} {v3} {v5} {v6} {v7} {v8} {b4} {o4} {n4} b-is R-is is =
+      record {
+        run = λ Pre Gives Gives′ Post asks between after.
+            qed W (raw Pre ∷ []) ∵ enter ! C Λ (char-through n g f τ τb τR τV τ3 τ5 τ6 τ7 τ8 ℓ4)
+            (vb ∷ vR ∷ v3 ∷ slice b4 o4 n4 ∷ v5 ∷ v6 ∷ v7 ∷ v8 ∷ []) Post $
+            alloc1 ! (λ at0. alloc1 ! (λ at1. alloc1 ! (λ at2. alloc1 ! (λ at3. alloc1 ! (λ at4. alloc1 ! (λ at5. alloc1 ! (λ at6. alloc1 ! (λ at7.
+            alloc1 ! (λ at8. alloc1 ! (λ at9. alloc1 ! (λ at10. alloc1 ! (λ at11. alloc0 ! $ params1 ! $
+            pass1 ! (init ! 20 refl b-is) $ pass1 ! (init ! 18 refl R-is) $ pass1 ! (init ! 16 refl (is .0)) $ pass1 ! (init ! 14 refl (is .1 .0)) $
+            pass1 ! (init ! 12 refl (is .1 .1 .0)) $ pass1 ! (init ! 10 refl (is .1 .1 .1 .0)) $ pass1 ! (init ! 8 refl (is .1 .1 .1 .1 .0)) $
+            pass1 ! (init ! 6 refl (is .1 .1 .1 .1 .1 .0)) $ pass0 ! $
+            move ! (24 ∷ []) $
+            calls-from ! fm (raw (Pre)) (vb ∷ vR ∷ []) Gives asks (and-then ! (held ! 21 refl) (and-then ! (held ! 19 refl) (no-more !))) (λ x.
+            use1 W (later (given (Typed τV x) (raw (C f (x ∷ v3 ∷ slice b4 o4 n4 ∷ v5 ∷ v6 ∷ v7 ∷ v8 ∷ []) Gives′)))) (between x) $ await ! tt $ learn ! (λ x-is.
+            land ! (from ! (stop !)) (init ! 5 refl x-is) $
+            assigns ! (addr ! (from ! (fld ! refl (hop ! (look-in ! 15 (sub ! 0 refl (whole !))) (stop !)))))
+            (from ! (stop !)) (init ! 3 refl (tt, tt)) $
+            assigns ! (agg ! (and-then ! (held ! 3 refl)
+            (and-then ! (load ! (from ! (fld ! refl (stop !))) (look-in ! 15 (sub ! 1 refl (whole !)))) (no-more !))))
+            (from ! (stop !)) (init ! 1 refl (tt, is .1 .0 .1)) $
+            calls-from ! fm (raw (C f (x ∷ v3 ∷ slice b4 o4 n4 ∷ v5 ∷ v6 ∷ v7 ∷ v8 ∷ []) Gives′)) (x ∷ v3 ∷ slice b4 o4 n4 ∷ v5 ∷ v6 ∷ v7 ∷ v8 ∷ []) Gives′ (id⊢ 𝓤 _)
+            (and-then ! (held ! 5 refl) (and-then ! (held ! 17 refl) (and-then ! (held ! 1 refl) (and-then ! (held ! 13 refl)
+            (and-then ! (held ! 11 refl) (and-then ! (held ! 9 refl) (and-then ! (held ! 7 refl) (no-more !)))))))) (λ u.
+            use1 W (later (given (AllTyped (τ ∷ []) (u ∷ [])) (raw (Post u)))) (after u) $ await ! tt $ learn ! (λ u-is.
+            land ! (from ! (stop !)) (init ! 23 refl (u-is .0)) $ returns ! (look ! 23 refl) $
+            let-go ! 23 refl refl $ let-go ! 21 refl refl $ let-go ! 19 refl refl $ let-go ! 17 refl refl $ let-go ! 15 refl refl $
+            let-go ! 13 refl refl $ let-go ! 11 refl refl $ let-go ! 9 refl refl $ let-go ! 7 refl refl $ let-go ! 5 refl refl $
+            let-go ! 3 refl refl $ let-go ! 1 refl refl $
+            free0 ! $ by ! (id⊢ 𝓤 (Post u))))))))))))))))));
+      }
+
+  pub string-through-runs : {n : ℕ} {g f : Name} {τ τb τR τV τ3 τ5 τ6 τ7 τ8 τ9 : Ty} {ℓ4 : Lifetime} {vb vR v3 v5 v6 v7 v8 v9 : Val} {b4 o4 n4 : ℕ}
+      → Typed τb vb → Typed τR vR
+      → AllTyped (τ3 ∷ lent ℓ4 ∷ τ5 ∷ τ6 ∷ τ7 ∷ τ8 ∷ τ9 ∷ []) (v3 ∷ slice b4 o4 n4 ∷ v5 ∷ v6 ∷ v7 ∷ v8 ∷ v9 ∷ [])
+      → PassesTwice 𝓤 H A C Λ g (vb ∷ vR ∷ []) τV f (λ x. x ∷ v3 ∷ slice b4 o4 n4 ∷ v5 ∷ v6 ∷ v7 ∷ v8 ∷ v9 ∷ []) (τ ∷ [])
+      (string-through n g f τ τb τR τV τ3 τ5 τ6 τ7 τ8 τ9 ℓ4) (vb ∷ vR ∷ v3 ∷ slice b4 o4 n4 ∷ v5 ∷ v6 ∷ v7 ∷ v8 ∷ v9 ∷ [])
+  string-through-runs {n} {g} {f} {τ} {τb} {τR} {τV} {τ3} {τ5} {τ6} {τ7} {τ8} {τ9} {ℓ4} {vb} {vR} {v3} {v5} {v6} {v7} {v8} {v9} {b4} {o4} {n4}
+      b-is R-is is =
+      record {
+        run = λ Pre Gives Gives′ Post asks between after.
+            qed W (raw Pre ∷ []) ∵ enter ! C Λ (string-through n g f τ τb τR τV τ3 τ5 τ6 τ7 τ8 τ9 ℓ4)
+            (vb ∷ vR ∷ v3 ∷ slice b4 o4 n4 ∷ v5 ∷ v6 ∷ v7 ∷ v8 ∷ v9 ∷ []) Post $
+            alloc1 ! (λ at0. alloc1 ! (λ at1. alloc1 ! (λ at2. alloc1 ! (λ at3. alloc1 ! (λ at4. alloc1 ! (λ at5. alloc1 ! (λ at6. alloc1 ! (λ at7.
+            alloc1 ! (λ at8. alloc1 ! (λ at9. alloc1 ! (λ at10. alloc1 ! (λ at11. alloc1 ! (λ at12. alloc0 ! $ params1 ! $
+            pass1 ! (init ! 22 refl b-is) $ pass1 ! (init ! 20 refl R-is) $ pass1 ! (init ! 18 refl (is .0)) $ pass1 ! (init ! 16 refl (is .1 .0)) $
+            pass1 ! (init ! 14 refl (is .1 .1 .0)) $ pass1 ! (init ! 12 refl (is .1 .1 .1 .0)) $ pass1 ! (init ! 10 refl (is .1 .1 .1 .1 .0)) $
+            pass1 ! (init ! 8 refl (is .1 .1 .1 .1 .1 .0)) $ pass1 ! (init ! 6 refl (is .1 .1 .1 .1 .1 .1 .0)) $ pass0 ! $
+            move ! (26 ∷ []) $
+            calls-from ! fm (raw (Pre)) (vb ∷ vR ∷ []) Gives asks (and-then ! (held ! 23 refl) (and-then ! (held ! 21 refl) (no-more !))) (λ x.
+            use1 W (later (given (Typed τV x) (raw (C f (x ∷ v3 ∷ slice b4 o4 n4 ∷ v5 ∷ v6 ∷ v7 ∷ v8 ∷ v9 ∷ []) Gives′)))) (between x) $ await ! tt $ learn ! (λ x-is.
+            land ! (from ! (stop !)) (init ! 5 refl x-is) $
+            assigns ! (addr ! (from ! (fld ! refl (hop ! (look-in ! 17 (sub ! 0 refl (whole !))) (stop !)))))
+            (from ! (stop !)) (init ! 3 refl (tt, tt)) $
+            assigns ! (agg ! (and-then ! (held ! 3 refl)
+            (and-then ! (load ! (from ! (fld ! refl (stop !))) (look-in ! 17 (sub ! 1 refl (whole !)))) (no-more !))))
+            (from ! (stop !)) (init ! 1 refl (tt, is .1 .0 .1)) $
+            calls-from ! fm (raw (C f (x ∷ v3 ∷ slice b4 o4 n4 ∷ v5 ∷ v6 ∷ v7 ∷ v8 ∷ v9 ∷ []) Gives′)) (x ∷ v3 ∷ slice b4 o4 n4 ∷ v5 ∷ v6 ∷ v7 ∷ v8 ∷ v9 ∷ []) Gives′ (id⊢ 𝓤 _)
+            (and-then ! (held ! 5 refl) (and-then ! (held ! 19 refl) (and-then ! (held ! 1 refl) (and-then ! (held ! 15 refl)
+            (and-then ! (held ! 13 refl) (and-then ! (held ! 11 refl) (and-then ! (held ! 9 refl) (and-then ! (held ! 7 refl) (no-more !)))))))))
+            (λ u.
+            use1 W (later (given (AllTyped (τ ∷ []) (u ∷ [])) (raw (Post u)))) (after u) $ await ! tt $ learn ! (λ u-is.
+            land ! (from ! (stop !)) (init ! 25 refl (u-is .0)) $ returns ! (look ! 25 refl) $
+            let-go ! 25 refl refl $ let-go ! 23 refl refl $ let-go ! 21 refl refl $ let-go ! 19 refl refl $ let-go ! 17 refl refl $
+            let-go ! 15 refl refl $ let-go ! 13 refl refl $ let-go ! 11 refl refl $ let-go ! 9 refl refl $ let-go ! 7 refl refl $
+            let-go ! 5 refl refl $ let-go ! 3 refl refl $ let-go ! 1 refl refl $
+            free0 ! $ by ! (id⊢ 𝓤 (Post u)))))))))))))))))));
+      }

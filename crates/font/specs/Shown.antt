@@ -8,6 +8,7 @@ use Rattle.load.specs.Load.{loaded}
 use Rattle.load.specs.declared.Loaded.{Loaded}
 use Rattle.vet.specs.Vet.{vetted}
 use Rattle.vet.specs.declared.Vetted.{Vetted}
+use Rattle.bitmaps.specs.Place.{Place}
 use Rattle.glyphs.specs.Char.{drawChar, charLeaves}
 use Rattle.glyphs.specs.declared.CharDrawn.{CharDrawn}
 use Rattle.text.specs.Text.{drawString, stringLeaves}
@@ -37,12 +38,11 @@ abbrev pub leftWith : Loaded → (Record → List ℕ) → List ℕ → List ℕ
 leftWith (Loaded.Font rec) leaves old = leaves rec
 leftWith (Loaded.Refused r) leaves old = old
 
-unfoldable pub showChar : List ℕ → Bool → ℕ → ℕ → ℕ → ℕ → ℕ → CharDrawn
-showChar s vetting code len start stride scale = charWith (recordOf s vetting) (λ rec. drawChar s rec code len start stride scale)
+unfoldable pub showChar : List ℕ → Bool → ℕ → ℕ → Place → CharDrawn
+showChar s vetting code len at = charWith (recordOf s vetting) (λ rec. drawChar s rec code len at)
 
-unfoldable pub showCharLeaves : List ℕ → Bool → ℕ → ℕ → ℕ → ℕ → CharDrawn → List ℕ → List ℕ
-showCharLeaves s vetting start stride scale colour r old =
-    leftWith (recordOf s vetting) (λ rec. charLeaves s rec start stride scale colour r old) old
+unfoldable pub showCharLeaves : List ℕ → Bool → Place → ℕ → CharDrawn → List ℕ → List ℕ
+showCharLeaves s vetting at colour r old = leftWith (recordOf s vetting) (λ rec. charLeaves s rec at colour r old) old
 
 unfoldable pub showString : List ℕ → Bool → List ℕ → ℕ → Layout → TextDrawn
 showString s vetting text len lay = stringWith (recordOf s vetting) (λ rec. drawString s rec text len lay)

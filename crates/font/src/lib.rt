@@ -19,6 +19,7 @@ use text::TextDrawn;
 use text::Wrap;
 ghost use mathlib.Core.Path.{_≡_};
 ghost use lib.ListN.{length};
+ghost use Rattle.bitmaps.specs.Place.{placeAt};
 ghost use Rattle.lookup.specs.Lookup.{getGlyph};
 ghost use Rattle.names.specs.Names.{getName, nameBytes};
 ghost use Rattle.place.specs.Bounds.{dimensions};
@@ -81,8 +82,8 @@ impl<'a> Font<'a> {
         scale: usize,
         colour: u32,
     ) -> CharDrawn
-        ensures { λ r. ⌜ r ≡ drawChar (now (self .entry .bytes)) (self .entry .rec) (code .0) (length (now (buf .entry))) start stride scale ⌝ }
-        ensures { λ r. ⌜ now (buf .exit) ≡ charLeaves (now (self .entry .bytes)) (self .entry .rec) start stride scale colour r (now (buf .entry)) ⌝ }
+        ensures { λ r. ⌜ r ≡ drawChar (now (self .entry .bytes)) (self .entry .rec) (code .0) (length (now (buf .entry))) (placeAt start stride scale) ⌝ }
+        ensures { λ r. ⌜ now (buf .exit) ≡ charLeaves (now (self .entry .bytes)) (self .entry .rec) (placeAt start stride scale) colour r (now (buf .entry)) ⌝ }
     {
         glyphs::draw_char(
             self.bytes,

@@ -12,6 +12,7 @@ use vet::Vetted;
 use vet::vet;
 ghost use mathlib.Core.Path.{_≡_};
 ghost use lib.ListN.{length};
+ghost use Rattle.bitmaps.specs.Place.{placeAt};
 ghost use Rattle.glyphs.specs.Char.{drawChar, charLeaves};
 ghost use Rattle.text.specs.Text.{drawString, stringLeaves};
 ghost use Rattle.font.specs.Shown.{recordOf, showChar, showCharLeaves, showString, showStringLeaves};
@@ -42,8 +43,8 @@ pub fn char_through(
     scale: usize,
     colour: u32,
 ) -> CharDrawn
-    ensures { λ r. ⌜ r ≡ drawChar (now (bytes .entry)) rec (code .0) (length (now (buf .entry))) start stride scale ⌝ }
-    ensures { λ r. ⌜ now (buf .exit) ≡ charLeaves (now (bytes .entry)) rec start stride scale colour r (now (buf .entry)) ⌝ }
+    ensures { λ r. ⌜ r ≡ drawChar (now (bytes .entry)) rec (code .0) (length (now (buf .entry))) (placeAt start stride scale) ⌝ }
+    ensures { λ r. ⌜ now (buf .exit) ≡ charLeaves (now (bytes .entry)) rec (placeAt start stride scale) colour r (now (buf .entry)) ⌝ }
 {
     open(bytes, rec).draw_char(code, buf, start, stride, scale, colour)
 }
@@ -79,8 +80,8 @@ pub fn show_char(
     scale: usize,
     colour: u32,
 ) -> CharDrawn
-    ensures { λ r. ⌜ r ≡ showChar (now (bytes .entry)) vetting (code .0) (length (now (buf .entry))) start stride scale ⌝ }
-    ensures { λ r. ⌜ now (buf .exit) ≡ showCharLeaves (now (bytes .entry)) vetting start stride scale colour r (now (buf .entry)) ⌝ }
+    ensures { λ r. ⌜ r ≡ showChar (now (bytes .entry)) vetting (code .0) (length (now (buf .entry))) (placeAt start stride scale) ⌝ }
+    ensures { λ r. ⌜ now (buf .exit) ≡ showCharLeaves (now (bytes .entry)) vetting (placeAt start stride scale) colour r (now (buf .entry)) ⌝ }
 {
     let loaded = record_of(bytes, vetting);
     match loaded {
