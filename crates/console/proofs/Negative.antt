@@ -1,13 +1,13 @@
 -- A negative number's distance below -1 is a natural number, and fits. Assumes nothing.
 use mathlib.Core.Path.{_≡_, ap, subst}
 use mathlib.Core.Bool.{true, false}
-use Prim.Native.Nat.{ℕ, suc, _≤_, _<_}
+use Prim.Native.Nat.{ℕ, suc, _+_, _≤_, _<_}
 use native.Mathlib.Omega.{arith}
 use lib.Dec.{T}
 use lib.IntN.{ℤ, pos, negsuc, natAbs, _-ℤ_, subℕ}
 use lib.Signed.{mag, ltZ, nonNeg, natAbs-le}
-use mir.Syntax.{w32}
-use mir.Val.{SFits, toZ, ofZ}
+use mir.Syntax.{w32, w64}
+use mir.Val.{Fits, SFits, toZ, ofZ}
 use mir.Facts.{toZ-ofZ}
 use borrow.Author.Tests.{ltb-true, le-ltb}
 
@@ -25,21 +25,29 @@ above (negsuc n) t = absurd (subst T t tt)
 abbrev pub kept : ℤ → ℤ
 kept z = toZ w32 (ofZ w32 z)
 
--- what a cast to an unsigned number asks, and a bound
-abbrev pub Castable : ℤ → Type 0
-Castable z = T (nonNeg z) × (natAbs z ≤ 2147483648)
-
 module _ (z : ℤ) (f : SFits w32 z) where
   small : mag (kept z) < 2147483648
   small = rw (toZ-ofZ f) (f .sfits)
 
-  pub turned-fits : ltZ (kept z) (pos 0) ≡ true → SFits w32 (negsuc 0 -ℤ kept z)
-  turned-fits t = record { sfits = below (kept z) 2147483648 t small .0 }
+  module _ (t : ltZ (kept z) (pos 0) ≡ true) where
+    pub turned-fits : SFits w32 (negsuc 0 -ℤ kept z)
+    turned-fits = record { sfits = below (kept z) 2147483648 t small .0 }
 
-  pub turned-natural : ltZ (kept z) (pos 0) ≡ true → Castable (kept (negsuc 0 -ℤ kept z))
-  turned-natural t =
-      rw (toZ-ofZ (turned-fits t))
-      (below (kept z) 2147483648 t small .1, natAbs-le (negsuc 0 -ℤ kept z) (turned-fits t .sfits))
+    pub turned-natural : T (nonNeg (kept (negsuc 0 -ℤ kept z)))
+    turned-natural = rw (toZ-ofZ turned-fits) (below (kept z) 2147483648 t small .1)
 
-  pub natural : ltZ (kept z) (pos 0) ≡ false → Castable (kept z)
-  natural t = (above (kept z) t, natAbs-le (kept z) small)
+    turned-small : natAbs (kept (negsuc 0 -ℤ kept z)) ≤ 2147483648
+    turned-small = rw (toZ-ofZ turned-fits) (natAbs-le (negsuc 0 -ℤ kept z) (turned-fits .sfits))
+
+    pub turned-wide : Fits w64 (natAbs (kept (negsuc 0 -ℤ kept z)))
+    turned-wide = omega (arith, turned-small)
+
+    pub one-more-wide : Fits w64 (natAbs (kept (negsuc 0 -ℤ kept z)) + 1)
+    one-more-wide = omega (arith, turned-small)
+
+  module _ (t : ltZ (kept z) (pos 0) ≡ false) where
+    pub natural : T (nonNeg (kept z))
+    natural = above (kept z) t
+
+    pub natural-wide : Fits w64 (natAbs (kept z))
+    natural-wide = omega (arith, natAbs-le (kept z) small)

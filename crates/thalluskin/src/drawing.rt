@@ -17,6 +17,7 @@ use reads::GlyphIndex;
 use tables::Record;
 ghost use mathlib.Core.Path.{_≡_};
 ghost use lib.ListN.{length};
+ghost use Rattle.bitmaps.specs.Place.{placeAt};
 ghost use Rattle.bitmaps.specs.Draw.{drawBitmap, shownLeaves};
 ghost use Rattle.glyphs.specs.Glyph.{drawGlyph, glyphLeaves};
 ghost use Rattle.glyphs.specs.Char.{drawChar, charLeaves};
@@ -59,8 +60,8 @@ pub extern "C" fn thk_draw_bitmap(
     scale: usize,
     colour: u32,
 ) -> RowsAnswer
-    ensures { λ r. ⌜ r ≡ rowsAnswer (drawBitmap (now (bytes .entry)) rec (glyph .0) width height (length (now (buf .entry))) start stride scale) ⌝ }
-    ensures { λ r. ⌜ now (buf .exit) ≡ shownLeaves (now (bytes .entry)) (rec .bitmaps) (glyph .0) width start stride scale colour (drawBitmap (now (bytes .entry)) rec (glyph .0) width height (length (now (buf .entry))) start stride scale) (now (buf .entry)) ⌝ }
+    ensures { λ r. ⌜ r ≡ rowsAnswer (drawBitmap (now (bytes .entry)) rec (glyph .0) width height (length (now (buf .entry))) (placeAt start stride scale)) ⌝ }
+    ensures { λ r. ⌜ now (buf .exit) ≡ shownLeaves (now (bytes .entry)) (rec .bitmaps) (glyph .0) width (placeAt start stride scale) colour (drawBitmap (now (bytes .entry)) rec (glyph .0) width height (length (now (buf .entry))) (placeAt start stride scale)) (now (buf .entry)) ⌝ }
 {
     rows_answer(draw_bitmap(
         bytes,
@@ -88,8 +89,8 @@ pub extern "C" fn thk_draw_glyph(
     scale: usize,
     colour: u32,
 ) -> RowsAnswer
-    ensures { λ r. ⌜ r ≡ rowsAnswer (drawGlyph (now (bytes .entry)) rec info (length (now (buf .entry))) start stride scale) ⌝ }
-    ensures { λ r. ⌜ now (buf .exit) ≡ glyphLeaves (now (bytes .entry)) rec info start stride scale colour (drawGlyph (now (bytes .entry)) rec info (length (now (buf .entry))) start stride scale) (now (buf .entry)) ⌝ }
+    ensures { λ r. ⌜ r ≡ rowsAnswer (drawGlyph (now (bytes .entry)) rec info (length (now (buf .entry))) (placeAt start stride scale)) ⌝ }
+    ensures { λ r. ⌜ now (buf .exit) ≡ glyphLeaves (now (bytes .entry)) rec info (placeAt start stride scale) colour (drawGlyph (now (bytes .entry)) rec info (length (now (buf .entry))) (placeAt start stride scale)) (now (buf .entry)) ⌝ }
 {
     rows_answer(draw_glyph(bytes, rec, info, &mut *buf, start, stride, scale, colour))
 }
@@ -130,8 +131,8 @@ pub extern "C" fn thk_draw_char(
     scale: usize,
     colour: u32,
 ) -> CharAnswer
-    ensures { λ r. ⌜ r ≡ charAnswer (drawChar (now (bytes .entry)) rec (code .0) (length (now (buf .entry))) start stride scale) ⌝ }
-    ensures { λ r. ⌜ now (buf .exit) ≡ charLeaves (now (bytes .entry)) rec start stride scale colour (drawChar (now (bytes .entry)) rec (code .0) (length (now (buf .entry))) start stride scale) (now (buf .entry)) ⌝ }
+    ensures { λ r. ⌜ r ≡ charAnswer (drawChar (now (bytes .entry)) rec (code .0) (length (now (buf .entry))) (placeAt start stride scale)) ⌝ }
+    ensures { λ r. ⌜ now (buf .exit) ≡ charLeaves (now (bytes .entry)) rec (placeAt start stride scale) colour (drawChar (now (bytes .entry)) rec (code .0) (length (now (buf .entry))) (placeAt start stride scale)) (now (buf .entry)) ⌝ }
 {
     char_answer(draw_char(bytes, rec, code, &mut *buf, start, stride, scale, colour))
 }

@@ -1,18 +1,19 @@
-use mathlib.Core.Path.{ap, _∙_}
-use lib.ListN.{length}
+use Prim.Native.Nat.{ℕ}
+use mathlib.Core.Path.{_≡_, ap, _∙_}
+use Rattle.panel.specs.declared.asked.Request.{Request}
+use Rattle.panel.specs.declared.asked.Asked.{Asked}
 use Rattle.panel.specs.Asked.{judged}
 use borrow.Author.Needs.{needs}
 use Rattle.panel.proofs.asked.asked_of.Statement.{statement}
 use Rattle.panel.proofs.asked.asked_of.Tie as tie
 
-request-of-requires : tie.Need-request-of-requires
-request-of-requires c κs = search needs
-
-judged-requires : tie.Need-judged-requires
-judged-requires c κs = search needs
-
-returns : tie.Need-returns
-returns c = let (told, printable) = c .judged .ensures in (told ∙ ap (judged (length (c .before .before .before .args .input .now))) (c .before .request-of .ensures), printable)
+of-request : (n : ℕ) (found is : Request) (a : Asked) → a ≡ judged n found → found ≡ is → a ≡ judged n is
+of-request n found is a told same = told ∙ ap (judged n) same
 
 pub asked-of-spec : {M : Type 1} → statement M
-asked-of-spec = tie.close (tie.spec request-of-requires judged-requires returns)
+asked-of-spec =
+    tie.close
+    (tie.spec
+    (λ c κs. search needs)  -- request-of-requires
+    (λ c κs. search needs)  -- judged-requires
+    (λ c. search of-request))  -- returns

@@ -1,45 +1,57 @@
-use native.Mathlib.Omega.{arith}
+use Prim.Native.Nat.{ℕ, _+_, _≤_, _<_}
+use mathlib.Core.Path.{_≡_}
+use Rattle.panel.specs.declared.asked.Request.{Request}
+use Rattle.panel.specs.declared.asked.Asked.{Asked}
 use borrow.Author.Tests.{lt-ltb, le-ltb, eq-eqb, ne-eqb}
 use Rattle.panel.specs.Asked.{judged}
 use borrow.Author.Needs.{needs}
 use Rattle.panel.proofs.asked.judged.Statement.{statement}
 use Rattle.panel.proofs.asked.judged.Tie as tie
 
-returns : tie.Need-returns
-unfolding judged
-returns c = (simp (lt-ltb _ _ (c .if1 .taken)), tt {0})
+module _ (n : ℕ) (r : Request) where
+  unknown-kind : 1 < r .kind → Asked.Bad ≡ judged n r
+  unfolding judged
+  unknown-kind h = simp lt-ltb
 
-returns-2 : tie.Need-returns-2
-unfolding judged
-returns-2 c = (simp (le-ltb _ _ (c .before .before .if1 .left), eq-eqb _ _ (c .if2 .taken)), tt {0})
+  module _ (kind : r .kind ≤ 1) where
+    no-width : r .width ≡ 0 → Asked.Bad ≡ judged n r
+    unfolding judged
+    no-width h = simp (le-ltb, eq-eqb)
 
-returns-3 : tie.Need-returns-3
-unfolding judged
-returns-3 c = (simp (le-ltb _ _ (c .before .before .before .before .if1 .left), ne-eqb _ _ (c .before .before .if2 .left), lt-ltb _ _ (c .if3 .taken)), tt {0})
+    module _ (wide : r .width ≡ 0 → ⊥) where
+      too-wide : 65535 < r .width → Asked.Bad ≡ judged n r
+      unfolding judged
+      too-wide h = simp (lt-ltb, le-ltb, ne-eqb)
 
-returns-4 : tie.Need-returns-4
-unfolding judged
-returns-4 c = (simp (le-ltb _ _ (c .before .before .before .before .before .before .if1 .left), ne-eqb _ _ (c .before .before .before .before .if2 .left), le-ltb _ _ (c .before .before .if3 .left), eq-eqb _ _ (c .if4 .taken)), tt {0})
+      module _ (narrow : r .width ≤ 65535) where
+        no-height : r .height ≡ 0 → Asked.Bad ≡ judged n r
+        unfolding judged
+        no-height h = simp (le-ltb, eq-eqb, ne-eqb)
 
-returns-5 : tie.Need-returns-5
-unfolding judged
-returns-5 c = (simp (le-ltb _ _ (c .before .before .before .before .before .before .before .before .if1 .left), ne-eqb _ _ (c .before .before .before .before .before .before .if2 .left), le-ltb _ _ (c .before .before .before .before .if3 .left), ne-eqb _ _ (c .before .before .if4 .left), lt-ltb _ _ (c .if5 .taken)), tt {0})
+        module _ (high : r .height ≡ 0 → ⊥) where
+          too-many : 65536 < r .len → Asked.Bad ≡ judged n r
+          unfolding judged
+          too-many h = simp (lt-ltb, le-ltb, ne-eqb)
 
-cast-if6 : tie.Need-cast-if6
-cast-if6 c = search needs
+          module _ (few : r .len ≤ 65536) where
+            text-beyond : n < 28 + r .text → Asked.Bad ≡ judged n r
+            unfolding judged
+            text-beyond h = simp (lt-ltb, le-ltb, ne-eqb)
 
-add-if6 : tie.Need-add-if6
-add-if6 c = search needs
-
-returns-6 : tie.Need-returns-6
-unfolding judged
-returns-6 c = (simp (le-ltb _ _ (c .before .before .before .before .before .before .before .before .before .before .if1 .left), ne-eqb _ _ (c .before .before .before .before .before .before .before .before .if2 .left), le-ltb _ _ (c .before .before .before .before .before .before .if3 .left), ne-eqb _ _ (c .before .before .before .before .if4 .left), le-ltb _ _ (c .before .before .if5 .left), lt-ltb _ _ (c .if6 .taken)), tt {0})
-
-returns-7 : tie.Need-returns-7
-unfolding judged
-returns-7 c = (simp (le-ltb _ _ (c .before .before .before .before .before .before .before .before .before .before .if1 .left), ne-eqb _ _ (c .before .before .before .before .before .before .before .before .if2 .left), le-ltb _ _ (c .before .before .before .before .before .before .if3 .left), ne-eqb _ _ (c .before .before .before .before .if4 .left), le-ltb _ _ (c .before .before .if5 .left), le-ltb _ _ (c .if6 .left)), ((omega arith, omega arith), omega arith, omega arith))
+            judged-for : 28 + r .text ≤ n → Asked.For r ≡ judged n r
+            unfolding judged
+            judged-for h = simp (le-ltb, ne-eqb)
 
 pub judged-spec : {M : Type 1} → statement M
 judged-spec =
     tie.close
-    (tie.spec returns returns-2 returns-3 returns-4 returns-5 cast-if6 add-if6 returns-6 returns-7)
+    (tie.spec
+    (λ c. search (unknown-kind, tt {0}))  -- returns
+    (λ c. search (no-width, tt {0}))  -- returns-2
+    (λ c. search (too-wide, tt {0}))  -- returns-3
+    (λ c. search (no-height, tt {0}))  -- returns-4
+    (λ c. search (too-many, tt {0}))  -- returns-5
+    (λ c. search needs)  -- cast-if6
+    (λ c. search needs)  -- add-if6
+    (λ c. search (text-beyond, tt {0}))  -- returns-6
+    (λ c. search (judged-for, needs)))  -- returns-7

@@ -1,63 +1,42 @@
-use native.Mathlib.Omega.{arith}
+use Prim.Native.Nat.{ℕ}
+use mathlib.Core.Path.{_≡_}
+use mathlib.Core.List.{[], _∷_}
+use Rattle.panel.specs.Blocks.{mark, block}
 use borrow.Author.Tests.{eq-eqb, ne-eqb}
-use Rattle.panel.specs.Blocks.{block}
 use borrow.Author.Needs.{needs}
 use Rattle.panel.proofs.blocks.put_block.Statement.{statement}
 use Rattle.panel.proofs.blocks.put_block.Tie as tie
 
-put-one-requires : tie.Need-put-one-requires
-put-one-requires c κs = search needs
+module _ (upper lower : ℕ) where
+  space : upper ≡ 0 → lower ≡ 0 → block upper lower ≡ 32 ∷ []
+  unfolding block
+  space u l = simp eq-eqb
 
-same-length : tie.Need-same-length
-same-length c = search needs
+  lower-half : upper ≡ 0 → (lower ≡ 0 → ⊥) → block upper lower ≡ mark 132
+  unfolding block
+  lower-half u l = simp (eq-eqb, ne-eqb)
 
-returns : tie.Need-returns
-unfolding block
-returns c = let put = c .before .before .put-one .ensures in (rw (eq-eqb _ _ (c .before .before .before .before .before .if1 .taken), eq-eqb _ _ (c .before .before .before .before .if2 .taken)) put, omega (arith, put .0))
+  upper-half : (upper ≡ 0 → ⊥) → lower ≡ 0 → block upper lower ≡ mark 128
+  unfolding block
+  upper-half u l = simp (eq-eqb, ne-eqb)
 
-put-mark-requires : tie.Need-put-mark-requires
-put-mark-requires c κs = search needs
-
-same-length-2 : tie.Need-same-length-2
-same-length-2 c = search needs
-
-returns-2 : tie.Need-returns-2
-unfolding block
-returns-2 c = let put = c .before .before .put-mark .ensures in (rw (eq-eqb _ _ (c .before .before .before .before .before .if1 .taken), ne-eqb _ _ (c .before .before .before .before .if2 .left)) put, omega (arith, put .0))
-
-put-mark-requires-2 : tie.Need-put-mark-requires-2
-put-mark-requires-2 c κs = search needs
-
-same-length-3 : tie.Need-same-length-3
-same-length-3 c = search needs
-
-returns-3 : tie.Need-returns-3
-unfolding block
-returns-3 c = let put = c .before .before .put-mark2 .ensures in (rw (ne-eqb _ _ (c .before .before .before .before .before .if1 .left), eq-eqb _ _ (c .before .before .before .before .if3 .taken)) put, omega (arith, put .0))
-
-put-mark-requires-3 : tie.Need-put-mark-requires-3
-put-mark-requires-3 c κs = search needs
-
-same-length-4 : tie.Need-same-length-4
-same-length-4 c = search needs
-
-returns-4 : tie.Need-returns-4
-unfolding block
-returns-4 c = let put = c .before .before .put-mark3 .ensures in (rw (ne-eqb _ _ (c .before .before .before .before .before .if1 .left), ne-eqb _ _ (c .before .before .before .before .if3 .left)) put, omega (arith, put .0))
+  full : (upper ≡ 0 → ⊥) → (lower ≡ 0 → ⊥) → block upper lower ≡ mark 136
+  unfolding block
+  full u l = simp ne-eqb
 
 pub put-block-spec : {M : Type 1} → statement M
 put-block-spec =
     tie.close
     (tie.spec
-    put-one-requires
-    same-length
-    returns
-    put-mark-requires
-    same-length-2
-    returns-2
-    put-mark-requires-2
-    same-length-3
-    returns-3
-    put-mark-requires-3
-    same-length-4
-    returns-4)
+    (λ c κs. search needs)  -- put-one-requires
+    (λ c. search needs)  -- same-length
+    (λ c. search (space, needs))  -- returns
+    (λ c κs. search needs)  -- put-mark-requires
+    (λ c. search needs)  -- same-length-2
+    (λ c. search (lower-half, needs))  -- returns-2
+    (λ c κs. search needs)  -- put-mark-requires-2
+    (λ c. search needs)  -- same-length-3
+    (λ c. search (upper-half, needs))  -- returns-3
+    (λ c κs. search needs)  -- put-mark-requires-3
+    (λ c. search needs)  -- same-length-4
+    (λ c. search (full, needs)))  -- returns-4

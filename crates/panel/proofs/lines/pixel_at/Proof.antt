@@ -1,20 +1,19 @@
-use mathlib.Core.Path.{sym}
-use lib.ListN.{List·getD-eq-default}
+use Prim.Native.Nat.{ℕ, _≤_}
+use mathlib.Core.Path.{_≡_, sym}
+use mathlib.Core.List.{List}
+use lib.ListN.{length, getD, List·getD-eq-default}
 use borrow.Author.Needs.{needs}
 use Rattle.panel.proofs.lines.pixel_at.Statement.{statement}
 use Rattle.panel.proofs.lines.pixel_at.Tie as tie
 
-mul-result : tie.Need-mul-result
-mul-result c = search needs
-
-shared-slice-read-result : tie.Need-shared-slice-read-result
-shared-slice-read-result c = search needs
-
-returns : tie.Need-returns
-returns c = search needs
-
-returns-2 : tie.Need-returns-2
-returns-2 c = sym (List·getD-eq-default (c .before .args .pixels .now) _ (c .if1 .left))
+beyond : (pixels : List ℕ) (i : ℕ) → length pixels ≤ i → 0 ≡ getD pixels i 0
+beyond pixels i h = sym (List·getD-eq-default pixels 0 h)
 
 pub pixel-at-spec : {M : Type 1} → statement M
-pixel-at-spec = tie.close (tie.spec mul-result shared-slice-read-result returns returns-2)
+pixel-at-spec =
+    tie.close
+    (tie.spec
+    (λ c. search needs)  -- mul-result
+    (λ c. search needs)  -- shared-slice-read-result
+    (λ c. search needs)  -- returns
+    (λ c. search beyond))  -- returns-2
