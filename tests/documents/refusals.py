@@ -1,4 +1,6 @@
-"""Refusals are told alike wherever they are told: their numbers, and for each call the order in which it tests them."""
+"""Refusals are told alike wherever they are told: their numbers, and for each call the order in which it tests them,
+in the theorem on its numbers too."""
+import glob
 import re
 
 from documents import code, pages
@@ -7,6 +9,8 @@ ORDER = "Refusals, in order"
 LAST, DUMPS = 20, 20  # the greatest number, and the one that the dump program alone gives
 # answers the refusal's number itself, so that its type does not show that it refuses
 NUMBERS = {("dumper", "print_dump")}
+# answers no values, so that its theorem is of another form: utf8/proofs/Accepts.antt
+NO_VALUES = {("utf8", "check")}
 
 
 class Orders:
@@ -104,6 +108,31 @@ def public(known):
             yield f"{known.page}:{known.cells[call][0]}: {name} can{'' if functions[call] else 'not'} refuse"
 
 
+def theorems():
+    """the theorems on a call's numbers, NAME-refusals: NAME and its list"""
+    shared = dict(re.findall(r"^(of\w+) = (.*)", code.read("crates/promises/specs/Refusals.antt"), re.M))
+
+    def numbers(told):
+        words = re.findall(r"\d+|of\w+", told)
+        return [n for w in words for n in ([int(w)] if w.isdigit() else numbers(shared[w]))]
+
+    for path in sorted(glob.glob(code.path("crates/*/proofs/*Refusals.antt"))):
+        for m in re.finditer(r"^ *pub (\S+)-refusals :(.*?)^ *(?:unfolding|\1-refusals)\b", code.read(path), re.M | re.S):
+            told = re.search(r"(?:NumberedBy|Refusals s rec) (\w+|\((?:[^()]|\([^()]*\))*\))", m[2])
+            yield m[1].replace("-", "_"), numbers(told[1])
+
+
+def proved(known):
+    """each theorem has the list of the page, and no call is without one that tells its numbers there itself"""
+    lists = dict(theorems())
+    for name, numbers in lists.items():
+        if all(known.order(call) != numbers for call in known.cells if call[1] == name):
+            yield f"{known.page}: {name} is proved to be refused {numbers}"
+    for call in sorted(known.first - NUMBERS - NO_VALUES):
+        if re.search(r"\d", known.cells[call][1]) and call[1] not in lists:
+            yield f"{known.page}:{known.cells[call][0]}: no theorem on the numbers of {'::'.join(call)}"
+
+
 def told_numbers(known):
     """each place that tells refusals by number, with the numbers it has and those it has to have"""
     every, library = list(range(1, LAST + 1)), [n for n in range(1, LAST + 1) if n != DUMPS]
@@ -131,7 +160,7 @@ def differing(has, must):
 def check():
     known, calls, header = Orders(pages.PROMISES, "Function"), Orders(pages.CALLS, "Call"), header_orders()
     exported = {call for call in known.cells if call[0] == "thalluskin"}
-    faults = list(public(known))
+    faults = list(public(known)) + list(proved(known))
     faults += compare(known, calls, known.first | set(calls.cells))
     faults += compare(known, header, exported | set(header.cells))
     numbers = list(told_numbers(known))
@@ -141,5 +170,6 @@ def check():
         "public functions": len(known.cells),
         "orders of refusals": sum(len(orders.cells) for orders in (known, calls, header)),
         "lists of refusals": len(numbers),
+        "theorems on refusals": len(dict(theorems())),
     }
     return counts, faults

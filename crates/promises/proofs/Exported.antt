@@ -6,6 +6,7 @@ use mathlib.Core.List.{List}
 use Prim.Native.Nat.{ℕ, zero, suc}
 use lib.IntN.{ℤ}
 use Rattle.reads.specs.Said.{refusal, refuses}
+use Rattle.reads.proofs.Numbers.{nought-answers}
 use Rattle.tables.specs.declared.Record.{Record}
 use Rattle.load.specs.Load.{loaded, saidLoaded}
 use Rattle.load.specs.declared.Loaded.{Loaded}
@@ -21,6 +22,7 @@ use Rattle.props.specs.declared.PropValue.{PropValue}
 use Rattle.props.specs.declared.PropFound.{PropFound}
 use Rattle.metrics.specs.Measure.{getMetrics, saidMeasured}
 use Rattle.metrics.specs.declared.Measured.{Measured}
+use Rattle.bitmaps.specs.Place.{Place}
 use Rattle.bitmaps.specs.Draw.{drawBitmap, saidDrawn}
 use Rattle.bitmaps.specs.Unpack.{saidUnpacked}
 use Rattle.bitmaps.specs.declared.Drawn.{Drawn}
@@ -43,61 +45,77 @@ use Rattle.thalluskin.specs.Reading.{fontAnswer, propAnswer, propertyAnswer, gl
 use Rattle.thalluskin.specs.Placing.{extentAnswer, infoAnswer}
 use Rattle.thalluskin.specs.Drawing.{rowsAnswer, charAnswer, unpackAnswer}
 use Rattle.thalluskin.specs.Texts.{layout, textAnswer, stepAnswer}
-use Rattle.promises.specs.Numbered.{Numbered}
+use Rattle.promises.specs.Refusals.{Answers}
 use Rattle.promises.specs.Exported.{readOff, saysFont, saysProperty, saysGlyph, saysName, saysMetrics, saysExtent, saysInfo, saysRows, saysChar, saysUnpack, saysText, saysStep}
-use Rattle.promises.proofs.Numbered.{load-numbered, vet-numbered, prop-numbered, glyph-numbered, name-numbered, metrics-numbered, dimensions-numbered, prep-char-numbered}
-use Rattle.promises.proofs.NumberedDrawing.{bitmap-numbered, draw-glyph-numbered, draw-char-numbered, unpack-glyph-numbered, string-numbered, step-numbered}
+use Rattle.promises.proofs.Refusals.{
+  load-pcf-refusals,
+  vet-refusals,
+  prop-at-refusals,
+  get-glyph-refusals,
+  get-name-refusals,
+  get-metrics-refusals,
+  dimensions-refusals,
+  prep-char-refusals,
+}
+use Rattle.promises.proofs.DrawingRefusals.{
+  draw-bitmap-refusals,
+  draw-glyph-refusals,
+  draw-char-refusals,
+  unpack-glyph-refusals,
+  draw-string-refusals,
+  step-at-refusals,
+}
 
 -- beside a refusal's number no value is read
-a-refusal : (n place : ℕ) (values : List ℤ) → Numbered (refuses (refusal n place)) → readOff n place values ≡ refuses (refusal n place)
-a-refusal zero place values h = absurd (h .answers refl refl)
+a-refusal : (n place : ℕ) (values : List ℤ) → Answers (refuses (refusal n place)) → readOff n place values ≡ refuses (refusal n place)
+a-refusal zero place values h = absurd (h refl refl)
 a-refusal (suc n) place values h = refl
 
-font-read : (x : Loaded) → Numbered (saidLoaded x) → saysFont (fontAnswer x) ≡ saidLoaded x
+font-read : (x : Loaded) → Answers (saidLoaded x) → saysFont (fontAnswer x) ≡ saidLoaded x
 font-read (Loaded.Font rec) h = refl
 font-read (Loaded.Refused r) h = a-refusal (r .number) (r .place) _ h
 
-vet-read : (x : Vetted) → Numbered (saidVetted x) → saysFont (fontAnswer (asLoaded x)) ≡ saidVetted x
+vet-read : (x : Vetted) → Answers (saidVetted x) → saysFont (fontAnswer (asLoaded x)) ≡ saidVetted x
 vet-read (Vetted.Passed rec) h = refl
 vet-read (Vetted.Refused r) h = a-refusal (r .number) (r .place) _ h
 
-glyph-read : (x : Found) → Numbered (saidFound x) → saysGlyph (glyphAnswer x) ≡ saidFound x
+glyph-read : (x : Found) → Answers (saidFound x) → saysGlyph (glyphAnswer x) ≡ saidFound x
 glyph-read (Found.Glyph g) h = refl
 glyph-read (Found.Refused r) h = a-refusal (r .number) (r .place) _ h
 
-name-read : (x : Named) → Numbered (saidNamed x) → saysName (nameAnswer x) ≡ saidNamed x
+name-read : (x : Named) → Answers (saidNamed x) → saysName (nameAnswer x) ≡ saidNamed x
 name-read (Named.Name p) h = refl
 name-read (Named.Refused r) h = a-refusal (r .number) (r .place) _ h
 
-metrics-read : (x : Measured) → Numbered (saidMeasured x) → saysMetrics (metricsAnswer x) ≡ saidMeasured x
+metrics-read : (x : Measured) → Answers (saidMeasured x) → saysMetrics (metricsAnswer x) ≡ saidMeasured x
 metrics-read (Measured.Metrics m) h = refl
 metrics-read (Measured.Refused r) h = a-refusal (r .number) (r .place) _ h
 
-extent-read : (x : Sized) → Numbered (saidSized x) → saysExtent (extentAnswer x) ≡ saidSized x
+extent-read : (x : Sized) → Answers (saidSized x) → saysExtent (extentAnswer x) ≡ saidSized x
 extent-read (Sized.Dimensions d) h = refl
 extent-read (Sized.Refused r) h = a-refusal (r .number) (r .place) _ h
 
-info-read : (x : Prepared) → Numbered (saidPrepared x) → saysInfo (infoAnswer x) ≡ saidPrepared x
+info-read : (x : Prepared) → Answers (saidPrepared x) → saysInfo (infoAnswer x) ≡ saidPrepared x
 info-read (Prepared.Info i) h = refl
 info-read (Prepared.Refused r) h = a-refusal (r .number) (r .place) _ h
 
-rows-read : (x : Drawn) → Numbered (saidDrawn x) → saysRows (rowsAnswer x) ≡ saidDrawn x
+rows-read : (x : Drawn) → Answers (saidDrawn x) → saysRows (rowsAnswer x) ≡ saidDrawn x
 rows-read (Drawn.Rows n) h = refl
 rows-read (Drawn.Refused r) h = a-refusal (r .number) (r .place) _ h
 
-char-read : (x : CharDrawn) → Numbered (saidChar x) → saysChar (charAnswer x) ≡ saidChar x
+char-read : (x : CharDrawn) → Answers (saidChar x) → saysChar (charAnswer x) ≡ saidChar x
 char-read (CharDrawn.Glyph i n) h = refl
 char-read (CharDrawn.Refused r) h = a-refusal (r .number) (r .place) _ h
 
-unpack-read : (x : Unpacked) → Numbered (saidUnpacked x) → saysUnpack (unpackAnswer x) ≡ saidUnpacked x
+unpack-read : (x : Unpacked) → Answers (saidUnpacked x) → saysUnpack (unpackAnswer x) ≡ saidUnpacked x
 unpack-read (Unpacked.Rows n) h = refl
 unpack-read (Unpacked.Refused r) h = a-refusal (r .number) (r .place) _ h
 
-text-read : (x : TextDrawn) → Numbered (saidText x) → saysText (textAnswer x) ≡ saidText x
+text-read : (x : TextDrawn) → Answers (saidText x) → saysText (textAnswer x) ≡ saidText x
 text-read (TextDrawn.Done t) h = refl
 text-read (TextDrawn.Refused r) h = a-refusal (r .number) (r .place) _ h
 
-step-read : (x : Step) → Numbered (saidStep x) → saysStep (stepAnswer x) ≡ saidStep x
+step-read : (x : Step) → Answers (saidStep x) → saysStep (stepAnswer x) ≡ saidStep x
 step-read (Step.Char c next) h = refl
 step-read Step.End h = refl
 step-read (Step.Refused r) h = a-refusal (r .number) (r .place) _ h
@@ -106,62 +124,62 @@ value-read : (name : Span) (v : PropValue) → saysProperty (propAnswer (record 
 value-read name (PropValue.Number n) = refl
 value-read name (PropValue.String p) = refl
 
-property-read : (x : PropFound) → Numbered (saidProp x) → saysProperty (propertyAnswer x) ≡ saidProp x
+property-read : (x : PropFound) → Answers (saidProp x) → saysProperty (propertyAnswer x) ≡ saidProp x
 property-read (PropFound.Property p) h = value-read (p .name) (p .value)
 property-read (PropFound.Refused r) h = a-refusal (r .number) (r .place) _ h
 
 pub load-says : (s : List ℕ) → saysFont (fontAnswer (recordOf s false)) ≡ saidLoaded (loaded s)
 unfolding recordOf
-load-says s = font-read (loaded s) (load-numbered s)
+load-says s = font-read (loaded s) (nought-answers refl (load-pcf-refusals s))
 
 pub vet-says : (s : List ℕ) → saysFont (fontAnswer (recordOf s true)) ≡ saidVetted (vetted s)
 unfolding recordOf
-vet-says s = vet-read (vetted s) (vet-numbered s)
+vet-says s = vet-read (vetted s) (nought-answers refl (vet-refusals s))
 
 pub property-says : (s : List ℕ) (rec : Record) (number : ℕ) → saysProperty (propertyAnswer (propAt s rec number)) ≡ saidProp (propAt s rec number)
-property-says s rec number = property-read (propAt s rec number) (prop-numbered s rec number)
+property-says s rec number = property-read (propAt s rec number) (nought-answers refl (prop-at-refusals s rec number .numbered))
 
 pub glyph-says : (s : List ℕ) (rec : Record) (code : ℕ) → saysGlyph (glyphAnswer (getGlyph s rec code)) ≡ saidFound (getGlyph s rec code)
-glyph-says s rec code = glyph-read (getGlyph s rec code) (glyph-numbered s rec code)
+glyph-says s rec code = glyph-read (getGlyph s rec code) (nought-answers refl (get-glyph-refusals s rec code .numbered))
 
 pub name-says : (s : List ℕ) (rec : Record) (glyph : ℕ) → saysName (nameAnswer (getName s rec glyph)) ≡ saidNamed (getName s rec glyph)
-name-says s rec glyph = name-read (getName s rec glyph) (name-numbered s rec glyph)
+name-says s rec glyph = name-read (getName s rec glyph) (nought-answers refl (get-name-refusals s rec glyph .numbered))
 
 pub metrics-says : (s : List ℕ) (rec : Record) (glyph : ℕ) → saysMetrics (metricsAnswer (getMetrics s rec glyph)) ≡ saidMeasured (getMetrics s rec glyph)
-metrics-says s rec glyph = metrics-read (getMetrics s rec glyph) (metrics-numbered s rec glyph)
+metrics-says s rec glyph = metrics-read (getMetrics s rec glyph) (nought-answers refl (get-metrics-refusals s rec glyph .numbered))
 
 pub dimensions-says : (s : List ℕ) (rec : Record) → saysExtent (extentAnswer (dimensions s rec)) ≡ saidSized (dimensions s rec)
-dimensions-says s rec = extent-read (dimensions s rec) (dimensions-numbered s rec)
+dimensions-says s rec = extent-read (dimensions s rec) (nought-answers refl (dimensions-refusals s rec .numbered))
 
 pub prep-char-says : (s : List ℕ) (rec : Record) (code : ℕ) → saysInfo (infoAnswer (prepChar s rec code)) ≡ saidPrepared (prepChar s rec code)
-prep-char-says s rec code = info-read (prepChar s rec code) (prep-char-numbered s rec code)
+prep-char-says s rec code = info-read (prepChar s rec code) (nought-answers refl (prep-char-refusals s rec code .numbered))
 
-pub draw-bitmap-says : (s : List ℕ) (rec : Record) (glyph width height len start stride scale : ℕ)
-    → let d = drawBitmap s rec glyph width height len start stride scale in saysRows (rowsAnswer d) ≡ saidDrawn d
-draw-bitmap-says s rec glyph width height len start stride scale =
-    rows-read (drawBitmap s rec glyph width height len start stride scale) (bitmap-numbered s rec glyph width height len start stride scale)
+pub draw-bitmap-says : (s : List ℕ) (rec : Record) (glyph width height len : ℕ) (at : Place)
+    → let d = drawBitmap s rec glyph width height len at in saysRows (rowsAnswer d) ≡ saidDrawn d
+draw-bitmap-says s rec glyph width height len at =
+    rows-read (drawBitmap s rec glyph width height len at) (nought-answers refl (draw-bitmap-refusals s rec glyph width height len at .numbered))
 
-pub draw-glyph-says : (s : List ℕ) (rec : Record) (info : GlyphInfo) (len start stride scale : ℕ)
-    → let d = drawGlyph s rec info len start stride scale in saysRows (rowsAnswer d) ≡ saidDrawn d
-draw-glyph-says s rec info len start stride scale =
-    rows-read (drawGlyph s rec info len start stride scale) (draw-glyph-numbered s rec info len start stride scale)
+pub draw-glyph-says : (s : List ℕ) (rec : Record) (info : GlyphInfo) (len : ℕ) (at : Place)
+    → let d = drawGlyph s rec info len at in saysRows (rowsAnswer d) ≡ saidDrawn d
+draw-glyph-says s rec info len at =
+    rows-read (drawGlyph s rec info len at) (nought-answers refl (draw-glyph-refusals s rec info len at .numbered))
 
-pub draw-char-says : (s : List ℕ) (rec : Record) (code len start stride scale : ℕ)
-    → let d = drawChar s rec code len start stride scale in saysChar (charAnswer d) ≡ saidChar d
-draw-char-says s rec code len start stride scale =
-    char-read (drawChar s rec code len start stride scale) (draw-char-numbered s rec code len start stride scale)
+pub draw-char-says : (s : List ℕ) (rec : Record) (code len : ℕ) (at : Place)
+    → let d = drawChar s rec code len at in saysChar (charAnswer d) ≡ saidChar d
+draw-char-says s rec code len at =
+    char-read (drawChar s rec code len at) (nought-answers refl (draw-char-refusals s rec code len at .numbered))
 
 pub unpack-glyph-says : (s : List ℕ) (rec : Record) (info : GlyphInfo) (len start stride : ℕ)
     → let u = unpackGlyph s rec info len start stride in saysUnpack (unpackAnswer u) ≡ saidUnpacked u
 unpack-glyph-says s rec info len start stride =
-    unpack-read (unpackGlyph s rec info len start stride) (unpack-glyph-numbered s rec info len start stride)
+    unpack-read (unpackGlyph s rec info len start stride) (nought-answers refl (unpack-glyph-refusals s rec info len start stride .numbered))
 
 -- of the drawing and of its dry run, which answer the same
 pub draw-string-says : (s : List ℕ) (rec : Record) (text : List ℕ) (len start wrap stride scale : ℕ)
     → let d = drawString s rec text len (layout start wrap stride scale) in saysText (textAnswer d) ≡ saidText d
 draw-string-says s rec text len start wrap stride scale =
     let lay = layout start wrap stride scale in
-    text-read (drawString s rec text len lay) (string-numbered s rec text len lay)
+    text-read (drawString s rec text len lay) (nought-answers refl (draw-string-refusals s rec text len lay .numbered))
 
 pub utf8-step-says : (text : List ℕ) (i : ℕ) → saysStep (stepAnswer (stepAt text i)) ≡ saidStep (stepAt text i)
-utf8-step-says text i = step-read (stepAt text i) (step-numbered text i)
+utf8-step-says text i = step-read (stepAt text i) (nought-answers refl (step-at-refusals text i))

@@ -5,8 +5,8 @@ mod UniqueConsole
 mod UniqueExports
 mod UniqueFont
 mod RecordTest
-mod Numbered
-mod NumberedDrawing
+mod Refusals
+mod DrawingRefusals
 mod Exported
 mod Vetting
 mod VettingRefuses

@@ -12,7 +12,7 @@ use Rattle.tables.specs.declared.BitmapData.{BitmapData}
 use Rattle.tables.specs.declared.Record.{Record}
 use Rattle.lookup.specs.Lookup.{glyphOf}
 use Rattle.lookup.specs.declared.Found.{Found}
-use Rattle.metrics.specs.Measure.{metricsAt}
+use Rattle.metrics.specs.Measure.{glyphMetrics}
 use Rattle.bitmaps.specs.Cut.{drawnRows}
 use Rattle.bitmaps.specs.Picture.{rowsShort, pixelPast}
 use Rattle.bitmaps.specs.Draw.{rowsOf, shownAt}
@@ -41,14 +41,14 @@ module _ (s : List ℕ) (rec : Record) (lay : Layout) (len : ℕ) where
   -- a set bit of a drawn row of this glyph, drawn with the pen there, has a pixel beyond `len` pixels
   abbrev pub pastAt : Pen → GlyphInfo → Bool
   pastAt pen i =
-      let p = placeOf i (spot lay pen) (lay .stride) (lay .scale) in
-      pixelPast s (rec .bitmaps) (i .glyph .0) (i .width) (i .width) p (lay .stride) (lay .scale) (drawnRows len p (lay .stride) (lay .scale) (i .height)) len
+      let p = placeOf i (spot lay pen) in
+      pixelPast s (rec .bitmaps) (i .glyph .0) (i .width) (i .width) p (drawnRows len p (i .height)) len
 
   -- what is drawn of it where nothing but 16 can refuse
   abbrev pub drawnOr16 : Pen → GlyphInfo → Drawn
   drawnOr16 pen i =
-      let p = placeOf i (spot lay pen) (lay .stride) (lay .scale) in
-      cond (pastAt pen i) (Drawn.Refused (refusal 16 0)) (Drawn.Rows (rowsOf (i .height) (drawnRows len p (lay .stride) (lay .scale) (i .height))))
+      let p = placeOf i (spot lay pen) in
+      cond (pastAt pen i) (Drawn.Refused (refusal 16 0)) (Drawn.Rows (rowsOf (i .height) (drawnRows len p (i .height))))
 
   -- what was placed is drawn, or refused 16
   abbrev pub Only16 : Placed → Type 0
@@ -58,21 +58,21 @@ module _ (s : List ℕ) (rec : Record) (lay : Layout) (len : ℕ) where
 
   module _ (passed : vetted s ≡ Vetted.Passed rec) where
     usable-drawn : (pen : Pen) (g : GlyphIndex) → Usable s rec g
-        → let i = boxOf g (metricsAt s (rec .metrics) (g .0)) (boundsOf rec .ascent) in drawnFrom s rec lay len pen i ≡ drawnOr16 pen i
+        → let i = boxOf g (glyphMetrics s (rec .metrics) (g .0)) (boundsOf rec .ascent) in drawnFrom s rec lay len pen i ≡ drawnOr16 pen i
     unfolding glyphDrawn shownAt
     usable-drawn pen g u =
-        let i = boxOf g (metricsAt s (rec .metrics) (g .0)) (boundsOf rec .ascent) in
-        let p = placeOf i (spot lay pen) (lay .stride) (lay .scale) in
-        let n = drawnRows len p (lay .stride) (lay .scale) (i .height) in
+        let i = boxOf g (glyphMetrics s (rec .metrics) (g .0)) (boundsOf rec .ascent) in
+        let p = placeOf i (spot lay pen) in
+        let n = drawnRows len p (i .height) in
         rw (
           u .has-bitmap,
           passes-when s rec .0 passed .1 .readable,
-          fewer-rows s (rec .bitmaps) (g .0) (i .width) n (i .height) (drawn-within len p (lay .stride) (lay .scale) (i .height)) (u .has-rows),
+          fewer-rows s (rec .bitmaps) (g .0) (i .width) n (i .height) (drawn-within len p (i .height)) (u .has-rows),
         ) refl
 
     glyph-only : (pen : Pen) (g : GlyphIndex) → Usable s rec g → Only16 (placeInfo rec lay pen (infoOf s rec g))
     glyph-only pen g u =
-        let i = boxOf g (metricsAt s (rec .metrics) (g .0)) (boundsOf rec .ascent) in
+        let i = boxOf g (glyphMetrics s (rec .metrics) (g .0)) (boundsOf rec .ascent) in
         subst (λ (q : Prepared). Only16 (placeInfo rec lay pen q)) (sym (usable-info s rec g u)) (usable-drawn (wrapped rec lay i pen) g u)
 
     found-only : (code : ℕ) (pen : Pen) (x : Found) → glyphOf s (rec .codes) code ≡ x → Only16 (placeFound s rec lay pen x)

@@ -20,7 +20,7 @@ use Rattle.bitmaps.specs.Draw.{shownAt}
 use Rattle.place.specs.Bounds.{boundsHold}
 use Rattle.place.specs.Info.{placeable, infoOf, prepared}
 use Rattle.glyphs.specs.Glyph.{glyphDrawn}
-use Rattle.glyphs.specs.Char.{drawChar}
+use Rattle.glyphs.specs.Char.{charReady, drawChar}
 use Rattle.utf8.specs.Table.{find, leadOf, table as leads}
 use Rattle.utf8.specs.Step.{longer, stepAt}
 use Rattle.utf8.specs.Decode.{decodeFrom, decoded}
@@ -37,6 +37,6 @@ unfolding table seen asked F linesF typed typedLines hexBytes linesOf digitOf di
     propertiesTable propertiesAt acceleratorsTable acceleratorsAt wideAt narrowAt metricsTable metricsAt bitmapsTable
     bitmapsAt codesTable codesAt namesTable namesAt propsFit metricsFit bitmapsFit codesFit namesFit recordFits finished
     tableAt entryOf entryAt entriesFrom loaded slotOf glyphOf getGlyph metricsOf getMetrics some painted column bitAt bytesPast blockDot rowDot
-    someDot rowsShort glyphBit shownAt boundsHold placeable infoOf prepared glyphDrawn drawChar find leadOf leads longer
+    someDot rowsShort glyphBit shownAt boundsHold placeable infoOf prepared glyphDrawn charReady drawChar find leadOf leads longer
     stepAt decodeFrom decoded placed textFrom inText ready drawString offsetOf wrapped placedDrawn pairs allPairs
 proved-cases = (refl, (refl, (refl, (refl, (refl, (refl, (refl, (refl, (refl, (refl, tt))))))))))

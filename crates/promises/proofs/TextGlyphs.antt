@@ -31,12 +31,12 @@ module _ (s : List ℕ) (rec : Record) (lay : Layout) (len : ℕ) where
 
   past-beyond : (x : Spot) → pastAt s rec lay len (x .pen) (x .info) ≡ true → IsBeyond x
   past-beyond x =
-      dot-past (glyphBit s (rec .bitmaps) (x .info .glyph .0) (x .info .width)) (spotPlace lay len x) (lay .stride) (lay .scale) (x .info .width)
+      dot-past (glyphBit s (rec .bitmaps) (x .info .glyph .0) (x .info .width)) (spotPlace lay len x) (x .info .width)
       (spotRows lay len x) len
 
   beyond-past : (x : Spot) → IsBeyond x → pastAt s rec lay len (x .pen) (x .info) ≡ true
   beyond-past x (i, h, d) =
-      past-dot (glyphBit s (rec .bitmaps) (x .info .glyph .0) (x .info .width)) (spotPlace lay len x) (lay .stride) (lay .scale) (x .info .width)
+      past-dot (glyphBit s (rec .bitmaps) (x .info .glyph .0) (x .info .width)) (spotPlace lay len x) (x .info .width)
       (spotRows lay len x) len i h d
 
   none-past : (x : Spot) → pastAt s rec lay len (x .pen) (x .info) ≡ false → IsBeyond x → ⊥
@@ -95,14 +95,14 @@ module _ (s : List ℕ) (rec : Record) (lay : Layout) (len : ℕ) where
     inked-char byte (Placed.Glyph q i) only more xs same room =
         let x : Spot = record { byte = byte; pen = q; info = i } in
         let bit = glyphBit s (rec .bitmaps) (i .glyph .0) (i .width) in
-        let dot = inInfo s (rec .bitmaps) i (spot lay q) (lay .stride) (lay .scale) (spotRows lay len x) k in
+        let dot = inInfo s (rec .bitmaps) i (spot lay q) (spotRows lay len x) k in
         let (to, from) = same (λ b. room (inr b)) in
         split (pastAt s rec lay len q i) (λ e. absurd (room (inl (past-beyond x e))))
         (λ e. rw (only, e) (
-          λ t. ⊎-elim (λ d. inl (found-dot bit (spotPlace lay len x) (lay .stride) (lay .scale) (i .width) (spotRows lay len x) k d)) (λ m. inr (to m))
+          λ t. ⊎-elim (λ d. inl (found-dot bit (spotPlace lay len x) (i .width) (spotRows lay len x) k d)) (λ m. inr (to m))
               (or-cases dot more t),
           ⊎-elim
-              (λ d. or-first dot more (lit-dot bit (spotPlace lay len x) (lay .stride) (lay .scale) (i .width) (spotRows lay len x) k d))
+              (λ d. or-first dot more (lit-dot bit (spotPlace lay len x) (i .width) (spotRows lay len x) k d))
               (λ m. or-second dot more (from m)),
         ))
     inked-char byte (Placed.Refused n) only more xs same room = absurd only

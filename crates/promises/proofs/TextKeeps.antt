@@ -38,8 +38,8 @@ module _ (s : List ℕ) (rec : Record) (text : List ℕ) (lay : Layout) where
   abbrev inWhole : Placed → ℕ → Bool
   inWhole (Placed.Skip pen) k = false
   inWhole (Placed.Glyph pen i) k =
-      let all = allGlyph s (rec .bitmaps) i (spot lay pen) (lay .stride) (lay .scale) in
-      inInfo s (rec .bitmaps) i (spot lay pen) (lay .stride) (lay .scale) (rowsIn all) k
+      let all = allGlyph s (rec .bitmaps) i (spot lay pen) in
+      inInfo s (rec .bitmaps) i (spot lay pen) (rowsIn all) k
   inWhole (Placed.Refused n) k = false
 
   unfoldable wholeFrom : List Char → Pen → ℕ → Bool
@@ -54,7 +54,7 @@ module _ (s : List ℕ) (rec : Record) (text : List ℕ) (lay : Layout) where
       x = record { byte = byte; pen = pen; info = i }
 
       abbrev inGlyph : ℕ → Bool
-      inGlyph n = inInfo s (rec .bitmaps) i (spot lay pen) (lay .stride) (lay .scale) n k
+      inGlyph n = inInfo s (rec .bitmaps) i (spot lay pen) n k
 
       inked-glyph : drawnFrom s rec lay len pen i ≡ Drawn.Rows r → (inGlyph (r .drawn) ≡ true) ↔ InkedAny s rec text lay len k x
       unfolding glyphDrawn
@@ -65,21 +65,21 @@ module _ (s : List ℕ) (rec : Record) (text : List ℕ) (lay : Layout) where
           split (noBitmap b g)
           (λ t.
           let none : r .drawn ≡ 0 = sym (ap rowsIn (rw t at e)) in (
-            λ is. never (sym (nothing-inside s b g (i .width) p (lay .stride) (lay .scale) k) ∙ (rw none at is)),
+            λ is. never (sym (nothing-inside s b g (i .width) p k) ∙ (rw none at is)),
             λ (has, d). absurd (omega (arith, has, leb-true (b .count) g t)),
           ))
           (λ t.
           let rows : r .drawn ≡ spotRows lay len x =
-          ap (λ (y : Rows). y .drawn) (shown-rows s b g (i .width) (i .height) len p (lay .stride) (lay .scale) r (rw t at e) .0) in
+          ap (λ (y : Rows). y .drawn) (shown-rows s b g (i .width) (i .height) len p r (rw t at e) .0) in
           rw rows (
-            λ is. (leb-false (b .count) g t, found-dot (glyphBit s b g (i .width)) p (lay .stride) (lay .scale) (i .width) (spotRows lay len x) k is),
-            λ (has, d). lit-dot (glyphBit s b g (i .width)) p (lay .stride) (lay .scale) (i .width) (spotRows lay len x) k d,
+            λ is. (leb-false (b .count) g t, found-dot (glyphBit s b g (i .width)) p (i .width) (spotRows lay len x) k is),
+            λ (has, d). lit-dot (glyphBit s b g (i .width)) p (i .width) (spotRows lay len x) k d,
           ))
 
       whole-glyph : drawnFrom s rec lay len pen i ≡ Drawn.Rows r → r .dropped ≡ 0 → inGlyph (r .drawn) ≡ inWhole (Placed.Glyph pen i) k
       whole-glyph e none =
           ap (λ (d : Drawn). inGlyph (rowsIn d))
-          (glyph-whole s (rec .bitmaps) i (spot lay pen) (lay .stride) (lay .scale) len r e (eq-eqb (r .dropped) 0 none))
+          (glyph-whole s (rec .bitmaps) i (spot lay pen) len r e (eq-eqb (r .dropped) 0 none))
 
     -- ---- characters that were all drawn
 
@@ -107,7 +107,7 @@ module _ (s : List ℕ) (rec : Record) (text : List ℕ) (lay : Layout) where
           let x : Spot = record { byte = byte; pen = pen; info = i } in
           rw e (record {
             more = omega (arith, w .more);
-            inside = λ k h. rw (glyph-inside s (rec .bitmaps) i (spot lay pen) (lay .stride) (lay .scale) len r e k h) (w .inside k h);
+            inside = λ k h. rw (glyph-inside s (rec .bitmaps) i (spot lay pen) len r e k h) (w .inside k h);
             inked = λ k. either-inked k x xs (inGlyph byte pen i r k (r .drawn)) (rule k) (inked-glyph byte pen i r k e) (w .inked k);
             whole = λ none k. ap₂ (λ (a b : Bool). a || b) (whole-glyph byte pen i r k e (omega (arith, none, w .more))) (w .whole none k);
           })

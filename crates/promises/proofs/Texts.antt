@@ -12,6 +12,7 @@ use Rattle.reads.specs.Said.{Said, refusal, says, refuses}
 use Rattle.reads.proofs.Tests.{split}
 use Rattle.tables.specs.declared.Record.{Record}
 use Rattle.load.proofs.Serves.{loaded-serves}
+use Rattle.bitmaps.specs.Place.{placeAt}
 use Rattle.bitmaps.specs.Limits.{okPlace}
 use Rattle.bitmaps.proofs.Painting.{length-painted, getD-painted}
 use Rattle.vet.specs.Vet.{vetted}
@@ -30,7 +31,8 @@ use Rattle.promises.proofs.TextGlyphs.{Told, told-text, inked-text}
 use Rattle.promises.proofs.TextHeight.{height-within}
 
 -- within the limits 15 does not refuse
-ok-place : (start stride scale : ℕ) → start ≤ 2147483647 → 1 ≤ stride → stride ≤ 65535 → 1 ≤ scale → scale ≤ 64 → okPlace start stride scale ≡ true
+ok-place : (start stride scale : ℕ) → start ≤ 2147483647 → 1 ≤ stride → stride ≤ 65535 → 1 ≤ scale → scale ≤ 64
+    → okPlace (placeAt start stride scale) ≡ true
 ok-place start stride scale a b c d e =
     rw (le-leb start 2147483647 a, le-leb 1 stride b, le-leb stride 65535 c, le-leb 1 scale d, le-leb scale 64 e) refl
 

@@ -1,18 +1,7 @@
 -- Each public function's contract, as it stands in the source, determines its answer: any two results that satisfy it for the same
 -- arguments are equal.
-use mathlib.Core.Path.{_≡_, sym, ap, _∙_}
-use mathlib.Core.List.{List}
-use Prim.Native.Nat.{ℕ}
+use mathlib.Core.Path.{_≡_, refl, sym, _∙_}
 use denote.Ref.{now}
-use Rattle.bitmaps.specs.Draw.{shownLeaves}
-use Rattle.bitmaps.specs.Unpack.{unpackedLeaves}
-use Rattle.glyphs.specs.Glyph.{placeOf, glyphLeaves}
-use Rattle.glyphs.specs.Char.{charLeaves}
-use Rattle.glyphs.specs.Unpack.{unpackLeaves}
-use Rattle.text.specs.Text.{stringLeaves}
-use Rattle.text.specs.declared.Layout.{Layout}
-use Rattle.hexline.specs.Fill.{hexLeaves}
-use Rattle.frames.specs.Put.{frameLeaves, refusedLeaves}
 use Rattle.promises.specs.Unique.{Fixes, FixesBytes, FixesLent}
 use Rattle.reads.proofs.byte_at.Kinds as byte-at-kinds
 use Rattle.reads.proofs.byte_at.Reads as byte-at-reads
@@ -52,6 +41,8 @@ use Rattle.tables.proofs.is_inside.Kinds as is-inside-kinds
 use Rattle.tables.proofs.is_inside.Reads as is-inside-reads
 use Rattle.tables.proofs.record_fits.Kinds as record-fits-kinds
 use Rattle.tables.proofs.record_fits.Reads as record-fits-reads
+use Rattle.tables.proofs.guard.Kinds as guard-kinds
+use Rattle.tables.proofs.guard.Reads as guard-reads
 use Rattle.load.proofs.load_pcf.Kinds as load-pcf-kinds
 use Rattle.load.proofs.load_pcf.Reads as load-pcf-reads
 use Rattle.load.proofs.blank.Kinds as blank-kinds
@@ -80,6 +71,12 @@ use Rattle.names.proofs.part_of.Kinds as part-of-kinds
 use Rattle.names.proofs.part_of.Reads as part-of-reads
 use Rattle.names.proofs.name_bytes.Kinds as name-bytes-kinds
 use Rattle.names.proofs.name_bytes.Reads as name-bytes-reads
+use Rattle.bitmaps.proofs.no_bitmap.Kinds as no-bitmap-kinds
+use Rattle.bitmaps.proofs.no_bitmap.Reads as no-bitmap-reads
+use Rattle.bitmaps.proofs.shown_byte.Kinds as shown-byte-kinds
+use Rattle.bitmaps.proofs.shown_byte.Reads as shown-byte-reads
+use Rattle.bitmaps.proofs.bit_of.Kinds as bit-of-kinds
+use Rattle.bitmaps.proofs.bit_of.Reads as bit-of-reads
 use Rattle.bitmaps.proofs.unreadable.Kinds as unreadable-kinds
 use Rattle.bitmaps.proofs.unreadable.Reads as unreadable-reads
 use Rattle.bitmaps.proofs.row_bytes.Kinds as row-bytes-kinds
@@ -124,6 +121,8 @@ use Rattle.outcome.proofs.shown_at.Kinds as shown-at-kinds
 use Rattle.outcome.proofs.shown_at.Reads as shown-at-reads
 use Rattle.outcome.proofs.unpacked_at.Kinds as unpacked-at-kinds
 use Rattle.outcome.proofs.unpacked_at.Reads as unpacked-at-reads
+use Rattle.outcome.proofs.bitmap_ready.Kinds as bitmap-ready-kinds
+use Rattle.outcome.proofs.bitmap_ready.Reads as bitmap-ready-reads
 use Rattle.outcome.proofs.bitmap_check.Kinds as bitmap-check-kinds
 use Rattle.outcome.proofs.bitmap_check.Reads as bitmap-check-reads
 use Rattle.place.proofs.char_info.Kinds as char-info-kinds
@@ -222,6 +221,9 @@ is-inside-unique κs a r₁ r₂ x₁ x₂ p q = p ∙ sym q
 pub record-fits-unique : Fixes 0 record-fits-kinds.ps record-fits-kinds.r record-fits-reads.Post
 record-fits-unique κs a r₁ r₂ x₁ x₂ p q = p ∙ sym q
 
+pub guard-unique : Fixes 0 guard-kinds.ps guard-kinds.r guard-reads.Post
+guard-unique κs a r₁ r₂ x₁ x₂ p q = p ∙ sym q
+
 pub load-pcf-unique : Fixes 1 load-pcf-kinds.ps load-pcf-kinds.r load-pcf-reads.Post
 load-pcf-unique κs a r₁ r₂ x₁ x₂ p q = p ∙ sym q
 
@@ -257,6 +259,15 @@ get-accelerators-unique κs a r₁ r₂ x₁ x₂ p q = p ∙ sym q
 
 pub dimensions-unique : Fixes 1 dimensions-kinds.ps dimensions-kinds.r dimensions-reads.Post
 dimensions-unique κs a r₁ r₂ x₁ x₂ p q = p ∙ sym q
+
+pub no-bitmap-unique : Fixes 0 no-bitmap-kinds.ps no-bitmap-kinds.r no-bitmap-reads.Post
+no-bitmap-unique κs a r₁ r₂ x₁ x₂ p q = p ∙ sym q
+
+pub shown-byte-unique : Fixes 1 shown-byte-kinds.ps shown-byte-kinds.r shown-byte-reads.Post
+shown-byte-unique κs a r₁ r₂ x₁ x₂ p q = p ∙ sym q
+
+pub bit-of-unique : Fixes 0 bit-of-kinds.ps bit-of-kinds.r bit-of-reads.Post
+bit-of-unique κs a r₁ r₂ x₁ x₂ p q = p ∙ sym q
 
 pub unreadable-unique : Fixes 0 unreadable-kinds.ps unreadable-kinds.r unreadable-reads.Post
 unreadable-unique κs a r₁ r₂ x₁ x₂ p q = p ∙ sym q
@@ -309,20 +320,16 @@ part-of-unique κs a r₁ r₂ x₁ x₂ p q = p ∙ sym q
 pub name-bytes-unique : FixesBytes 1 name-bytes-kinds.ps name-bytes-kinds.r name-bytes-reads.Post (λ κs r. now r)
 name-bytes-unique κs a r₁ r₂ x₁ x₂ p q = p ∙ sym q
 
--- an answer that is one value, and a buffer that is left as the answer says
-pub both-fixed : {A : Type 0} {x r₁ r₂ : A} {n₁ n₂ : List ℕ} (left : A → List ℕ) → r₁ ≡ x → r₂ ≡ x → n₁ ≡ left r₁ → n₂ ≡ left r₂ → (r₁ ≡ r₂) × (n₁ ≡ n₂)
-both-fixed left p q l m = let e = p ∙ sym q in (e, l ∙ ap left e ∙ sym m)
+-- of a call that is lent a buffer: the answer is one value, and the buffer is left as the answer says
 
 pub fill-bytes-unique : FixesLent 2 fill-bytes-kinds.ps fill-bytes-kinds.r fill-bytes-reads.Post (λ κs x. now (x .1 .0))
-fill-bytes-unique κs a r₁ r₂ x₁ x₂ p q =
-    both-fixed (λ r. hexLeaves (now (a .0)) r (now (a .1 .0))) (p .0) (q .0) (p .1) (q .1)
+fill-bytes-unique κs a r₁ r₂ x₁ x₂ p q = (p .0 ∙ sym (q .0), p .1 ∙ rw (p .0, q .0) refl ∙ sym (q .1))
 
 pub put-frame-unique : FixesLent 2 put-frame-kinds.ps put-frame-kinds.r put-frame-reads.Post (λ κs x. now (x .1 .1 .1 .0))
-put-frame-unique κs a r₁ r₂ x₁ x₂ p q =
-    both-fixed (λ r. frameLeaves (now (a .0)) (a .1 .0) (a .1 .1 .0 .0) r (now (a .1 .1 .1 .0))) (p .0) (q .0) (p .1) (q .1)
+put-frame-unique κs a r₁ r₂ x₁ x₂ p q = (p .0 ∙ sym (q .0), p .1 ∙ rw (p .0, q .0) refl ∙ sym (q .1))
 
 pub put-refused-unique : FixesLent 1 put-refused-kinds.ps put-refused-kinds.r put-refused-reads.Post (λ κs x. now (x .1 .0))
-put-refused-unique κs a r₁ r₂ x₁ x₂ p q = both-fixed (λ r. refusedLeaves (a .0) r (now (a .1 .0))) (p .0) (q .0) (p .1) (q .1)
+put-refused-unique κs a r₁ r₂ x₁ x₂ p q = (p .0 ∙ sym (q .0), p .1 ∙ rw (p .0, q .0) refl ∙ sym (q .1))
 
 pub ok-place-unique : Fixes 0 ok-place-kinds.ps ok-place-kinds.r ok-place-reads.Post
 ok-place-unique κs a r₁ r₂ x₁ x₂ p q = p ∙ sym q
@@ -335,6 +342,9 @@ shown-at-unique κs a r₁ r₂ x₁ x₂ p q = p ∙ sym q
 
 pub unpacked-at-unique : Fixes 1 unpacked-at-kinds.ps unpacked-at-kinds.r unpacked-at-reads.Post
 unpacked-at-unique κs a r₁ r₂ x₁ x₂ p q = p ∙ sym q
+
+pub bitmap-ready-unique : Fixes 1 bitmap-ready-kinds.ps bitmap-ready-kinds.r bitmap-ready-reads.Post
+bitmap-ready-unique κs a r₁ r₂ x₁ x₂ p q = p ∙ sym q
 
 pub bitmap-check-unique : Fixes 1 bitmap-check-kinds.ps bitmap-check-kinds.r bitmap-check-reads.Post
 bitmap-check-unique κs a r₁ r₂ x₁ x₂ p q = p ∙ sym q
@@ -358,32 +368,25 @@ pub unpack-check-unique : Fixes 1 unpack-check-kinds.ps unpack-check-kinds.r unp
 unpack-check-unique κs a r₁ r₂ x₁ x₂ p q = p ∙ sym q
 
 pub show-at-unique : FixesLent 2 show-at-kinds.ps show-at-kinds.r show-at-reads.Post (λ κs x. now (x .1 .1 .1 .1 .1 .0))
-show-at-unique κs a r₁ r₂ x₁ x₂ p q =
-    both-fixed (λ r. shownLeaves (now (a .0)) (a .1 .0) (a .1 .1 .0 .0) (a .1 .1 .1 .0) (a .1 .1 .1 .1 .1 .1 .0) (a .1 .1 .1 .1 .1 .1 .1 .0) (a .1 .1 .1 .1 .1 .1 .1 .1 .0) (a .1 .1 .1 .1 .1 .1 .1 .1 .1 .0) r (now (a .1 .1 .1 .1 .1 .0))) (p .0) (q .0) (p .1) (q .1)
+show-at-unique κs a r₁ r₂ x₁ x₂ p q = (p .0 ∙ sym (q .0), p .1 ∙ rw (p .0, q .0) refl ∙ sym (q .1))
 
 pub draw-bitmap-unique : FixesLent 2 draw-bitmap-kinds.ps draw-bitmap-kinds.r draw-bitmap-reads.Post (λ κs x. now (x .1 .1 .1 .1 .1 .0))
-draw-bitmap-unique κs a r₁ r₂ x₁ x₂ p q =
-    both-fixed (λ r. shownLeaves (now (a .0)) (a .1 .0 .bitmaps) (a .1 .1 .0 .0) (a .1 .1 .1 .0) (a .1 .1 .1 .1 .1 .1 .0) (a .1 .1 .1 .1 .1 .1 .1 .0) (a .1 .1 .1 .1 .1 .1 .1 .1 .0) (a .1 .1 .1 .1 .1 .1 .1 .1 .1 .0) r (now (a .1 .1 .1 .1 .1 .0))) (p .0) (q .0) (p .1) (q .1)
+draw-bitmap-unique κs a r₁ r₂ x₁ x₂ p q = (p .0 ∙ sym (q .0), p .1 ∙ rw (p .0, q .0) refl ∙ sym (q .1))
 
 pub unpack-at-unique : FixesLent 2 unpack-at-kinds.ps unpack-at-kinds.r unpack-at-reads.Post (λ κs x. now (x .1 .1 .1 .1 .1 .0))
-unpack-at-unique κs a r₁ r₂ x₁ x₂ p q =
-    both-fixed (λ r. unpackedLeaves (now (a .0)) (a .1 .0) (a .1 .1 .0 .0) (a .1 .1 .1 .0) (a .1 .1 .1 .1 .1 .1 .0) (a .1 .1 .1 .1 .1 .1 .1 .0) r (now (a .1 .1 .1 .1 .1 .0))) (p .0) (q .0) (p .1) (q .1)
+unpack-at-unique κs a r₁ r₂ x₁ x₂ p q = (p .0 ∙ sym (q .0), p .1 ∙ rw (p .0, q .0) refl ∙ sym (q .1))
 
 pub show-glyph-unique : FixesLent 2 show-glyph-kinds.ps show-glyph-kinds.r show-glyph-reads.Post (λ κs x. now (x .1 .1 .1 .0))
-show-glyph-unique κs a r₁ r₂ x₁ x₂ p q =
-    both-fixed (λ r. shownLeaves (now (a .0)) (a .1 .0) (a .1 .1 .0 .glyph .0) (a .1 .1 .0 .width) (placeOf (a .1 .1 .0) (a .1 .1 .1 .1 .0) (a .1 .1 .1 .1 .1 .0) (a .1 .1 .1 .1 .1 .1 .0)) (a .1 .1 .1 .1 .1 .0) (a .1 .1 .1 .1 .1 .1 .0) (a .1 .1 .1 .1 .1 .1 .1 .0) r (now (a .1 .1 .1 .0))) (p .0) (q .0) (p .1) (q .1)
+show-glyph-unique κs a r₁ r₂ x₁ x₂ p q = (p .0 ∙ sym (q .0), p .1 ∙ rw (p .0, q .0) refl ∙ sym (q .1))
 
 pub draw-glyph-unique : FixesLent 2 draw-glyph-kinds.ps draw-glyph-kinds.r draw-glyph-reads.Post (λ κs x. now (x .1 .1 .1 .0))
-draw-glyph-unique κs a r₁ r₂ x₁ x₂ p q =
-    both-fixed (λ r. glyphLeaves (now (a .0)) (a .1 .0) (a .1 .1 .0) (a .1 .1 .1 .1 .0) (a .1 .1 .1 .1 .1 .0) (a .1 .1 .1 .1 .1 .1 .0) (a .1 .1 .1 .1 .1 .1 .1 .0) r (now (a .1 .1 .1 .0))) (p .0) (q .0) (p .1) (q .1)
+draw-glyph-unique κs a r₁ r₂ x₁ x₂ p q = (p .0 ∙ sym (q .0), p .1 ∙ rw (p .0, q .0) refl ∙ sym (q .1))
 
 pub draw-char-unique : FixesLent 2 draw-char-kinds.ps draw-char-kinds.r draw-char-reads.Post (λ κs x. now (x .1 .1 .1 .0))
-draw-char-unique κs a r₁ r₂ x₁ x₂ p q =
-    both-fixed (λ r. charLeaves (now (a .0)) (a .1 .0) (a .1 .1 .1 .1 .0) (a .1 .1 .1 .1 .1 .0) (a .1 .1 .1 .1 .1 .1 .0) (a .1 .1 .1 .1 .1 .1 .1 .0) r (now (a .1 .1 .1 .0))) (p .0) (q .0) (p .1) (q .1)
+draw-char-unique κs a r₁ r₂ x₁ x₂ p q = (p .0 ∙ sym (q .0), p .1 ∙ rw (p .0, q .0) refl ∙ sym (q .1))
 
 pub unpack-glyph-unique : FixesLent 2 unpack-glyph-kinds.ps unpack-glyph-kinds.r unpack-glyph-reads.Post (λ κs x. now (x .1 .1 .1 .0))
-unpack-glyph-unique κs a r₁ r₂ x₁ x₂ p q =
-    both-fixed (λ r. unpackLeaves (now (a .0)) (a .1 .0) (a .1 .1 .0) (a .1 .1 .1 .1 .0) (a .1 .1 .1 .1 .1 .0) r (now (a .1 .1 .1 .0))) (p .0) (q .0) (p .1) (q .1)
+unpack-glyph-unique κs a r₁ r₂ x₁ x₂ p q = (p .0 ∙ sym (q .0), p .1 ∙ rw (p .0, q .0) refl ∙ sym (q .1))
 
 pub bounds-sized-unique : Fixes 0 bounds-sized-kinds.ps bounds-sized-kinds.r bounds-sized-reads.Post
 bounds-sized-unique κs a r₁ r₂ x₁ x₂ p q = p ∙ sym q
@@ -401,6 +404,4 @@ pub text-check-unique : Fixes 2 text-check-kinds.ps text-check-kinds.r text-chec
 text-check-unique κs a r₁ r₂ x₁ x₂ p q = p ∙ sym q
 
 pub draw-string-unique : FixesLent 3 draw-string-kinds.ps draw-string-kinds.r draw-string-reads.Post (λ κs x. now (x .1 .1 .1 .0))
-draw-string-unique κs a r₁ r₂ x₁ x₂ p q =
-    let lay : Layout = record { start = a .1 .1 .1 .1 .0; wrap = a .1 .1 .1 .1 .1 .0; stride = a .1 .1 .1 .1 .1 .1 .0; scale = a .1 .1 .1 .1 .1 .1 .1 .0 } in
-    both-fixed (λ r. stringLeaves (now (a .0)) (a .1 .0) (now (a .1 .1 .0)) lay (a .1 .1 .1 .1 .1 .1 .1 .1 .0) r (now (a .1 .1 .1 .0))) (p .0) (q .0) (p .1) (q .1)
+draw-string-unique κs a r₁ r₂ x₁ x₂ p q = (p .0 ∙ sym (q .0), p .1 ∙ rw (p .0, q .0) refl ∙ sym (q .1))

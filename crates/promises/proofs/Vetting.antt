@@ -3,7 +3,7 @@ use mathlib.Core.Path.{_≡_, refl, sym, subst, _∙_}
 use mathlib.Core.Bool.{Bool, true, false, _&&_}
 use mathlib.Core.List.{List}
 use mathlib.Core.Logic.{_↔_}
-use Prim.Native.Nat.{ℕ, _+_, _*_, _/_, _<_}
+use Prim.Native.Nat.{ℕ, _+_, _*_, _<_}
 use native.Mathlib.Omega.{arith}
 use lib.ListN.{length}
 use lib.Dec.{T, leb, eqb}
@@ -25,9 +25,10 @@ use Rattle.lookup.specs.declared.Found.{Found}
 use Rattle.names.specs.Names.{nameOf}
 use Rattle.names.specs.declared.Named.{Named}
 use Rattle.names.specs.declared.Span.{Span}
-use Rattle.metrics.specs.Measure.{metricsAt}
+use Rattle.metrics.specs.Measure.{glyphMetrics}
 use Rattle.names.proofs.EndsAtZero.{found-ends, ends-found}
 use Rattle.bitmaps.specs.Picture.{unreadable, bitsOf, rowOf, rowsShort}
+use Rattle.bitmaps.specs.Rows.{byteOf}
 use Rattle.bitmaps.proofs.DataBytes.{data-length}
 use Rattle.bitmaps.proofs.RowsInside.{rows-inside, inside-rows}
 use Rattle.place.specs.Bounds.{heightOf, inRange, boundsHold, boundsOf}
@@ -120,20 +121,20 @@ module _ (s : List ℕ) (rec : Record) (fits : recordFits (length s) rec ≡ tru
   -- 14
   module _ (g : ℕ) where
     abbrev measures : MetricsUnpacked
-    measures = metricsAt s (rec .metrics) g
+    measures = glyphMetrics s (rec .metrics) g
 
     abbrev short : Bool
     short = rowsShort s (rec .bitmaps) g (natAbs (measures .width)) (natAbs (heightOf measures))
 
     pub rows-good : short ≡ false → RowsGood s rec g
     rows-good e r c h l =
-        subst (λ size. rowOf s (rec .bitmaps) g (natAbs (measures .width)) r + c / 8 < size) data-size
+        subst (λ size. rowOf s (rec .bitmaps) g (natAbs (measures .width)) r + byteOf c < size) data-size
         (rows-inside s (rec .bitmaps) g (natAbs (measures .width)) (natAbs (heightOf measures)) e r c h l)
 
     pub good-rows : RowsGood s rec g → short ≡ false
     good-rows w =
         inside-rows s (rec .bitmaps) g (natAbs (measures .width)) (natAbs (heightOf measures)) (λ r c h l.
-        subst (λ size. rowOf s (rec .bitmaps) g (natAbs (measures .width)) r + c / 8 < size) (sym data-size) (w r c h l))
+        subst (λ size. rowOf s (rec .bitmaps) g (natAbs (measures .width)) r + byteOf c < size) (sym data-size) (w r c h l))
 
   -- 18, of a property
   pub property-good : (i : ℕ) → Readable s (rec .props) i → PropertyGood s (rec .props) i
@@ -176,7 +177,7 @@ module _ (s : List ℕ) (rec : Record) (fits : recordFits (length s) rec ≡ tru
   -- 10, 11, 12, 14, and those
   module _ (g : GlyphIndex) where
     abbrev m : MetricsUnpacked
-    m = metricsAt s (rec .metrics) (g .0)
+    m = glyphMetrics s (rec .metrics) (g .0)
 
     pub glyph-good : Usable s rec g → GlyphGood s rec (g .0)
     glyph-good u =

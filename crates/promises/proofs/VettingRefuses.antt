@@ -30,9 +30,9 @@ use Rattle.names.specs.Strings.{stringAt, EndsIn}
 use Rattle.names.specs.declared.Named.{Named}
 use Rattle.names.specs.declared.Span.{Span}
 use Rattle.names.proofs.EndsAtZero.{ends-found}
-use Rattle.names.proofs.Numbered.{string-eighteen}
+use Rattle.names.proofs.Refusals.{string-eighteen}
 use Rattle.props.specs.Props.{propOf}
-use Rattle.metrics.specs.Measure.{metricsAt, metricsOf}
+use Rattle.metrics.specs.Measure.{glyphMetrics, metricsOf}
 use Rattle.bitmaps.specs.Picture.{noBitmap, unreadable, rowsShort}
 use Rattle.place.specs.Bounds.{heightOf, boundsHold, boundsOf}
 use Rattle.place.specs.Info.{placeable, infoOf}
@@ -105,7 +105,7 @@ module _ (s : List ℕ) (rec : Record) (fits : recordFits (length s) rec ≡ tru
   -- a code with this glyph: its fault is the number of the glyph's first condition that fails
   module _ (code g : ℕ) (found : HasGlyph s rec code g) where
     abbrev m : MetricsUnpacked
-    m = metricsAt s (rec .metrics) g
+    m = glyphMetrics s (rec .metrics) g
 
     abbrev top : ℤ
     top = boundsOf rec .ascent
@@ -141,7 +141,7 @@ module _ (s : List ℕ) (rec : Record) (fits : recordFits (length s) rec ≡ tru
               let number : r .number ≡ n = rw d at f in
               let room = name-strings (length s) rec fits in
               stop (unended (rec .names .strings) (rec .names .size) offset room r d)
-              (sym number ∙ string-eighteen s (rec .names .strings) (rec .names .size) offset r room d)
+              (sym number ∙ string-eighteen s (rec .names .strings) (rec .names .size) offset r d room)
 
     fails-code : (n : ℕ) → FirstOf (glyphConditions s rec g) n → codeFault s rec code ≡ n
     fails-code n f =
@@ -176,7 +176,7 @@ module _ (s : List ℕ) (rec : Record) (fits : recordFits (length s) rec ≡ tru
     unfolding propFault propOf
     property-eighteen n h e z = by (string name-from) refl where
       told : (from : ℕ) (r : Refusal) → string from ≡ Named.Refused r → r .number ≡ n → n ≡ 18
-      told from r d number = sym number ∙ string-eighteen s (p .strings) (p .size) from r (prop-strings (length s) rec fits) d
+      told from r d number = sym number ∙ string-eighteen s (p .strings) (p .size) from r d (prop-strings (length s) rec fits)
 
       after : (q : Span) → string name-from ≡ Named.Name q → eqb flag 0 ≡ false → (x : Named) → string value-from ≡ x → n ≡ 18
       after q d t (Named.Name v) f = absurd (z (sym (rw (lt-leb (p .count) i h, d, t, f) at e)))

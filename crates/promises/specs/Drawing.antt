@@ -9,9 +9,10 @@ use lib.Dec.{eqb}
 use Rattle.reads.specs.Said.{Said}
 use Rattle.tables.specs.declared.BitmapData.{BitmapData}
 use Rattle.tables.specs.declared.Record.{Record}
+use Rattle.bitmaps.specs.Place.{Place}
 use Rattle.bitmaps.specs.Picture.{glyphBit}
 use Rattle.bitmaps.specs.Draw.{drawBitmap, shownLeaves, saidDrawn}
-use Rattle.bitmaps.specs.Unpack.{wholeColumns, saidUnpacked}
+use Rattle.bitmaps.specs.Unpack.{unscaled, wholeColumns, saidUnpacked}
 use Rattle.bitmaps.specs.declared.Drawn.{Drawn}
 use Rattle.bitmaps.specs.declared.Unpacked.{Unpacked}
 use Rattle.place.specs.declared.GlyphInfo.{GlyphInfo}
@@ -22,17 +23,17 @@ use Rattle.glyphs.specs.declared.CharDrawn.{CharDrawn}
 
 -- "A set bit [...] at row r, column c < width colours p + r × stride × scale + c × scale + a × stride + b for a, b below scale": pixel i is
 -- one of those, of the first n rows
-pub record Coloured (bit : ℕ → ℕ → Bool) (p stride scale width n i : ℕ) : Type 0 where
+pub record Coloured (bit : ℕ → ℕ → Bool) (at : Place) (width n i : ℕ) : Type 0 where
   pub r : ℕ
   pub c : ℕ
   pub a : ℕ
   pub b : ℕ
   pub r-below : r < n
   pub c-below : c < width
-  pub a-below : a < scale
-  pub b-below : b < scale
+  pub a-below : a < at .scale
+  pub b-below : b < at .scale
   pub is-set : bit r c ≡ true
-  pub is-there : i ≡ p + r * stride * scale + c * scale + a * stride + b
+  pub is-there : i ≡ at .p + r * at .stride * at .scale + c * at .scale + a * at .stride + b
 
 -- a call that is lent a buffer: what it answers by the buffer's length, what that answer says, and what it leaves in the buffer; with such
 -- an answer, which pixels are to have the colour, and whether no row was cut
@@ -81,59 +82,59 @@ abbrev pub wholeUnpacked : Unpacked → Bool
 wholeUnpacked (Unpacked.Rows n) = true
 wholeUnpacked (Unpacked.Refused r) = false
 
-module _ (s : List ℕ) (b : BitmapData) (g width p stride : ℕ) where
-  -- the pixels of glyph g, drawn at p
-  abbrev pub bitmapColoured : ℕ → Drawn → ℕ → Type 0
-  bitmapColoured scale (Drawn.Rows r) i = Coloured (glyphBit s b g width) p stride scale width (r .drawn) i
-  bitmapColoured scale (Drawn.Refused r) i = ⊥
+module _ (s : List ℕ) (b : BitmapData) (g width : ℕ) (at : Place) where
+  -- the pixels of glyph g, drawn there
+  abbrev pub bitmapColoured : Drawn → ℕ → Type 0
+  bitmapColoured (Drawn.Rows r) i = Coloured (glyphBit s b g width) at width (r .drawn) i
+  bitmapColoured (Drawn.Refused r) i = ⊥
 
   -- unpacked: "every whole row byte, columns past the width included"
   abbrev pub unpackedColoured : Unpacked → ℕ → Type 0
-  unpackedColoured (Unpacked.Rows n) i = Coloured (glyphBit s b g width) p stride 1 (wholeColumns width) n i
+  unpackedColoured (Unpacked.Rows n) i = Coloured (glyphBit s b g width) at (wholeColumns width) n i
   unpackedColoured (Unpacked.Refused r) i = ⊥
 
-abbrev pub charColoured : List ℕ → BitmapData → ℕ → ℕ → ℕ → CharDrawn → ℕ → Type 0
-charColoured s b start stride scale (CharDrawn.Glyph i r) k =
-    Coloured (glyphBit s b (i .glyph .0) (i .width)) (placeOf i start stride scale) stride scale (i .width) (r .drawn) k
-charColoured s b start stride scale (CharDrawn.Refused r) k = ⊥
+abbrev pub charColoured : List ℕ → BitmapData → Place → CharDrawn → ℕ → Type 0
+charColoured s b at (CharDrawn.Glyph i r) k = Coloured (glyphBit s b (i .glyph .0) (i .width)) (placeOf i at) (i .width) (r .drawn) k
+charColoured s b at (CharDrawn.Refused r) k = ⊥
 
-module _ (s : List ℕ) (rec : Record) (start stride : ℕ) where
-  abbrev pub bitmapCall : ℕ → ℕ → ℕ → ℕ → ℕ → Call Drawn
-  bitmapCall g width height scale colour = record {
-    answer = λ len. drawBitmap s rec g width height len start stride scale;
+module _ (s : List ℕ) (rec : Record) (at : Place) where
+  abbrev pub bitmapCall : ℕ → ℕ → ℕ → ℕ → Call Drawn
+  bitmapCall g width height colour = record {
+    answer = λ len. drawBitmap s rec g width height len at;
     said = saidDrawn;
-    leaves = shownLeaves s (rec .bitmaps) g width start stride scale colour;
+    leaves = shownLeaves s (rec .bitmaps) g width at colour;
     colour = colour;
-    coloured = bitmapColoured s (rec .bitmaps) g width start stride scale;
+    coloured = bitmapColoured s (rec .bitmaps) g width at;
     whole = wholeDrawn;
   }
 
-  abbrev pub glyphCall : GlyphInfo → ℕ → ℕ → Call Drawn
-  glyphCall i scale colour = record {
-    answer = λ len. drawGlyph s rec i len start stride scale;
+  abbrev pub glyphCall : GlyphInfo → ℕ → Call Drawn
+  glyphCall i colour = record {
+    answer = λ len. drawGlyph s rec i len at;
     said = saidDrawn;
-    leaves = glyphLeaves s rec i start stride scale colour;
+    leaves = glyphLeaves s rec i at colour;
     colour = colour;
-    coloured = bitmapColoured s (rec .bitmaps) (i .glyph .0) (i .width) (placeOf i start stride scale) stride scale;
+    coloured = bitmapColoured s (rec .bitmaps) (i .glyph .0) (i .width) (placeOf i at);
     whole = wholeDrawn;
   }
 
-  abbrev pub charCall : ℕ → ℕ → ℕ → Call CharDrawn
-  charCall code scale colour = record {
-    answer = λ len. drawChar s rec code len start stride scale;
+  abbrev pub charCall : ℕ → ℕ → Call CharDrawn
+  charCall code colour = record {
+    answer = λ len. drawChar s rec code len at;
     said = saidChar;
-    leaves = charLeaves s rec start stride scale colour;
+    leaves = charLeaves s rec at colour;
     colour = colour;
-    coloured = charColoured s (rec .bitmaps) start stride scale;
+    coloured = charColoured s (rec .bitmaps) at;
     whole = wholeChar;
   }
 
-  abbrev pub unpackCall : GlyphInfo → Call Unpacked
-  unpackCall i = record {
-    answer = λ len. unpackGlyph s rec i len start stride;
-    said = saidUnpacked;
-    leaves = unpackLeaves s rec i start stride;
-    colour = 1;
-    coloured = unpackedColoured s (rec .bitmaps) (i .glyph .0) (i .width) (placeOf i start stride 1) stride;
-    whole = wholeUnpacked;
-  }
+-- unpacking has a start and a stride, and "scale 1"
+abbrev pub unpackCall : List ℕ → Record → ℕ → ℕ → GlyphInfo → Call Unpacked
+unpackCall s rec start stride i = record {
+  answer = λ len. unpackGlyph s rec i len start stride;
+  said = saidUnpacked;
+  leaves = unpackLeaves s rec i start stride;
+  colour = 1;
+  coloured = unpackedColoured s (rec .bitmaps) (i .glyph .0) (i .width) (placeOf i (unscaled start stride));
+  whole = wholeUnpacked;
+}

@@ -3,8 +3,7 @@ pub mod FontF
 pub mod Seen
 pub mod Cases
 pub mod Unique
-pub mod SixExactly
-pub mod Numbered
+pub mod Refusals
 pub mod Exported
 pub mod Passing
 pub mod Refusing

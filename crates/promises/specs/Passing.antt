@@ -1,7 +1,7 @@
 -- When a font passes vetting, in plain logic. From document 01, "Vetting": "Passes when loading does and, in this order: no 13; the
 -- bounds hold (11); every property's strings end (18); then for each code 0 to 65,535 that has a glyph: 10, 11, 12, 14 over all rows,
 -- 17, 18 don't occur."
-use Prim.Native.Nat.{ℕ, _+_, _*_, _/_, _<_}
+use Prim.Native.Nat.{ℕ, _+_, _*_, _<_}
 use mathlib.Core.Path.{_≡_}
 use mathlib.Core.Bool.{true}
 use mathlib.Core.List.{List}
@@ -18,8 +18,9 @@ use Rattle.load.specs.declared.Loaded.{Loaded}
 use Rattle.lookup.specs.Lookup.{glyphOf}
 use Rattle.lookup.specs.declared.Found.{Found}
 use Rattle.names.specs.Strings.{EndsIn}
-use Rattle.metrics.specs.Measure.{metricsAt}
+use Rattle.metrics.specs.Measure.{glyphMetrics}
 use Rattle.bitmaps.specs.Picture.{rowOf}
+use Rattle.bitmaps.specs.Rows.{byteOf}
 use Rattle.place.specs.Bounds.{heightOf, boundsOf}
 
 -- this code has this glyph
@@ -55,8 +56,8 @@ PropertiesGood s p end = (i : ℕ) → i < end → PropertyGood s p i
 -- every column of every row of a glyph has its byte in the bitmap data
 abbrev pub RowsGood : List ℕ → Record → ℕ → Type 0
 RowsGood s rec g =
-    (r c : ℕ) → r < natAbs (heightOf (metricsAt s (rec .metrics) g)) → c < natAbs (metricsAt s (rec .metrics) g .width)
-    → rowOf s (rec .bitmaps) g (natAbs (metricsAt s (rec .metrics) g .width)) r + c / 8 < rec .bitmaps .size
+    (r c : ℕ) → r < natAbs (heightOf (glyphMetrics s (rec .metrics) g)) → c < natAbs (glyphMetrics s (rec .metrics) g .width)
+    → rowOf s (rec .bitmaps) g (natAbs (glyphMetrics s (rec .metrics) g .width)) r + byteOf c < rec .bitmaps .size
 
 -- a glyph's name ends
 abbrev pub NameEnds : List ℕ → GlyphNameData → ℕ → Type 0
@@ -65,7 +66,7 @@ NameEnds s n g = EndsIn s (n .strings) (n .size) (u32At (n .big) s (n .offsets +
 -- of a glyph: none of 10, 11, 12, 14 over all rows, 17, 18
 pub record GlyphGood (s : List ℕ) (rec : Record) (g : ℕ) : Type 0 where
   pub measured : g < rec .metrics .count
-  pub metrics : MetricsGood (metricsAt s (rec .metrics) g) (boundsOf rec .ascent)
+  pub metrics : MetricsGood (glyphMetrics s (rec .metrics) g) (boundsOf rec .ascent)
   pub pictured : g < rec .bitmaps .count
   pub rows : RowsGood s rec g
   pub counted : g < rec .names .count

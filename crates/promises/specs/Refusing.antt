@@ -5,7 +5,7 @@ use mathlib.Core.Path.{_≡_}
 use mathlib.Core.List.{List, [], _∷_}
 use mathlib.Core.Logic.{_⊎_}
 use Rattle.tables.specs.declared.Record.{Record}
-use Rattle.metrics.specs.Measure.{metricsAt}
+use Rattle.metrics.specs.Measure.{glyphMetrics}
 use Rattle.place.specs.Bounds.{boundsOf}
 use Rattle.promises.specs.Passing.{HasGlyph, OrderGood, BoundsGood, MetricsGood, PropertyGood, PropertiesGood, RowsGood, NameEnds, CodesGood}
 
@@ -26,7 +26,7 @@ FirstOf (c ∷ cs) n = ((c .holds → ⊥) × (n ≡ c .number)) ⊎ (c .holds �
 abbrev pub glyphConditions : List ℕ → Record → ℕ → List Condition
 glyphConditions s rec g =
     unless 10 (g < rec .metrics .count)
-    ∷ unless 11 (MetricsGood (metricsAt s (rec .metrics) g) (boundsOf rec .ascent))
+    ∷ unless 11 (MetricsGood (glyphMetrics s (rec .metrics) g) (boundsOf rec .ascent))
     ∷ unless 12 (g < rec .bitmaps .count)
     ∷ unless 14 (RowsGood s rec g)
     ∷ unless 17 (g < rec .names .count)

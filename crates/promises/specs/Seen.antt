@@ -12,6 +12,7 @@ use Rattle.load.specs.Load.{loaded}
 use Rattle.load.specs.declared.Loaded.{Loaded}
 use Rattle.lookup.specs.Lookup.{getGlyph, saidFound}
 use Rattle.metrics.specs.Measure.{getMetrics, saidMeasured}
+use Rattle.bitmaps.specs.Place.{placeAt}
 use Rattle.glyphs.specs.Char.{drawChar, charLeaves, saidChar}
 use Rattle.glyphs.specs.declared.CharDrawn.{CharDrawn}
 use Rattle.text.specs.Text.{drawString, stringLeaves, saidText}
@@ -49,7 +50,7 @@ placesFrom i [] = []
 placesFrom i (x ∷ xs) = let later = placesFrom (suc i) xs in cond (eqb x 1) (i ∷ later) later
 
 abbrev pub seenChar : List ℕ → Record → ℕ → ℕ → ℕ → CharDrawn → Seen
-seenChar s rec pixels stride scale r = record { answer = saidChar r; pixels = placesFrom 0 (charLeaves s rec 0 stride scale 1 r (cleared pixels)) }
+seenChar s rec pixels stride scale r = record { answer = saidChar r; pixels = placesFrom 0 (charLeaves s rec (placeAt 0 stride scale) 1 r (cleared pixels)) }
 
 abbrev pub seenText : List ℕ → Record → List ℕ → ℕ → Layout → TextDrawn → Seen
 seenText s rec t pixels lay r = record { answer = saidText r; pixels = placesFrom 0 (stringLeaves s rec t lay 1 r (cleared pixels)) }
@@ -61,7 +62,7 @@ layout stride wrap = record { start = 0; wrap = wrap; stride = stride; scale = 1
 unfoldable pub asked : List ℕ → Loaded → Ask → Seen
 asked s (Loaded.Refused r) a = record { answer = refuses r; pixels = [] }
 asked s (Loaded.Font rec) (char code stride pixels scale) =
-    seenChar s rec pixels stride scale (drawChar s rec code pixels 0 stride scale)
+    seenChar s rec pixels stride scale (drawChar s rec code pixels (placeAt 0 stride scale))
 asked s (Loaded.Font rec) (text t stride pixels wrap) =
     seenText s rec (typed t) pixels (layout stride wrap) (drawString s rec (typed t) pixels (layout stride wrap))
 asked s (Loaded.Font rec) (glyph code) = record { answer = saidFound (getGlyph s rec code); pixels = [] }

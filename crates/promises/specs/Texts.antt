@@ -11,6 +11,7 @@ use lib.ListN.{length, getD}
 use lib.Dec.{eqb}
 use Rattle.reads.specs.Said.{Said, refusal, says, refuses}
 use Rattle.tables.specs.declared.Record.{Record}
+use Rattle.bitmaps.specs.Place.{Place}
 use Rattle.bitmaps.specs.Cut.{drawnRows}
 use Rattle.bitmaps.specs.Picture.{glyphBit}
 use Rattle.place.specs.declared.GlyphInfo.{GlyphInfo}
@@ -66,12 +67,12 @@ Some P (x ∷ xs) = P x ⊎ Some P xs
 
 module _ (lay : Layout) (len : ℕ) where
   -- p: "draw at start + y × stride + x", lowered and moved right by the pads
-  abbrev pub spotPlace : Spot → ℕ
-  spotPlace x = placeOf (x .info) (spot lay (x .pen)) (lay .stride) (lay .scale)
+  abbrev pub spotPlace : Spot → Place
+  spotPlace x = placeOf (x .info) (spot lay (x .pen))
 
   -- rows drawn, into `len` pixels
   abbrev pub spotRows : Spot → ℕ
-  spotRows x = drawnRows len (spotPlace x) (lay .stride) (lay .scale) (x .info .height)
+  spotRows x = drawnRows len (spotPlace x) (x .info .height)
 
   -- "the sum of height - rows drawn"
   abbrev pub droppedRows : List Spot → ℕ
@@ -81,8 +82,7 @@ module _ (lay : Layout) (len : ℕ) where
   module _ (s : List ℕ) (rec : Record) where
     -- pixel i is one of a set bit of a drawn row of this glyph
     abbrev pub Inked : ℕ → Spot → Type 0
-    Inked i x =
-        Coloured (glyphBit s (rec .bitmaps) (x .info .glyph .0) (x .info .width)) (spotPlace x) (lay .stride) (lay .scale) (x .info .width) (spotRows x) i
+    Inked i x = Coloured (glyphBit s (rec .bitmaps) (x .info .glyph .0) (x .info .width)) (spotPlace x) (x .info .width) (spotRows x) i
 
     -- a set bit of a drawn row would colour a pixel beyond the buffer
     abbrev pub Beyond : Spot → Type 0
