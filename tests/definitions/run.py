@@ -41,8 +41,12 @@ def listed():
 
 def libraries():
     """the libraries with the definitions that the cases call"""
-    on = listed()
-    called = {name for top in TOPS for name in (top, *on[top].split())}
+    on, called, left = listed(), set(), list(TOPS)
+    while left:
+        name = left.pop()
+        if name in on and name not in called:
+            called.add(name)
+            left += on[name].split()
     return [c for c in on if c in called and os.path.isdir(os.path.join(ROOT, "crates", c, "specs"))]
 
 
