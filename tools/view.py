@@ -11,6 +11,8 @@ import sys
 TOOLS = os.path.dirname(os.path.abspath(__file__))
 ROOT = os.path.dirname(TOOLS)
 PROOFS = os.path.join("crates", "font", "proofs")
+DEEP = " " * 12
+TYPED = "AllTyped (τ ∷ []) (u ∷ [])"
 WIDTHS = {"u8": "w8", "u16": "w16", "u32": "w32", "u64": "w64", "usize": "w64"}
 
 
@@ -117,6 +119,16 @@ def part_held(cell, k):
     return f"(load ! (from ! (fld ! refl (stop !))) (look-in ! {cell} (sub ! {k} refl (whole !))))"
 
 
+def stored(cell, fact):
+    """a value, by the fact that it is of the local's type"""
+    return f"(from ! (stop !)) (init ! {cell} refl {fact}) $"
+
+
+def learned(result, typed, then, by):
+    """what a call has given"""
+    return [f"{DEEP}use1 W (later (given ({typed}) (raw ({then})))) ({by}) $ await ! tt $ learn ! (λ {result}-is."]
+
+
 class Shape:
     """The code of such a function, its types left open, and the walk of its MIR. It knows which locals there are, and
     where their cells stand in the context of the walk: from the last local to the first, each with its room."""
@@ -126,20 +138,24 @@ class Shape:
         first = 3 if through else 2
         self.others = list(enumerate(kinds, first))
         self.params = first - 1 + len(kinds)
-        self.values = [i for i, kind in self.others if kind == "value"]
         self.lent = [i for i, kind in self.others if kind == "lent"]
         self.made = [self.params + 1] if through else [self.params + 1, self.params + 2]
         after = self.made[-1] + 1
         self.again = {i: (after + 2 * k, after + 2 * k + 1) for k, i in enumerate(self.lent)}
         self.count = after + 2 * len(self.lent)
-        self.types = ("τ τb τR τV" if through else "τ τb τB τR") + self.each("τ{i}", self.values)
-        self.names = ("n g f " if through else "n f ") + self.types + ("" if through else " ν") + self.each("ℓ{i}", self.lent)
-        vals = self.of_others("v{i}", "slice b{i} o{i} n{i}")
-        self.mine = listed((["vb", "vR"] if through else ["viewed vb vR"]) + vals)
-        self.passed = listed((["x"] if through else ["vb", "vR"]) + vals)
+        self.names_of_all()
 
-    def each(self, text, over):
-        return "".join(" " + text.format(i=i) for i in over)
+    def names_of_all(self):
+        """what the code and the law are over, as the text names it"""
+        values = [i for i, kind in self.others if kind == "value"]
+        self.types = " ".join(["τ τb τR τV" if self.through else "τ τb τB τR", *[f"τ{i}" for i in values]])
+        self.names = " ".join(["n g f" if self.through else "n f", self.types, *([] if self.through else ["ν"]),
+                               *[f"ℓ{i}" for i in self.lent]])
+        self.vals = " ".join(["vb vR", *[f"v{i}" for i in values]])
+        passed = self.of_others("v{i}", "slice b{i} o{i} n{i}")
+        self.mine = listed((["vb", "vR"] if self.through else ["viewed vb vR"]) + passed)
+        self.passed = listed((["x"] if self.through else ["vb", "vR"]) + passed)
+        self.all_typed = f"AllTyped ({listed(self.of_others('τ{i}', 'lent ℓ{i}'))}) ({listed(passed)})"
 
     def of_others(self, value, lent):
         return [(lent if kind == "lent" else value).format(i=i) for i, kind in self.others]
@@ -153,15 +169,17 @@ class Shape:
         return "is" + " .1" * (local - self.others[0][0]) + " .0"
 
     def code(self):
-        signature = ["ℕ", *(["Name"] * (2 if self.through else 1)), f"({self.types} : Ty)", *([] if self.through else ["Sym"]),
-                     *(["Lifetime"] * len(self.lent)), "Fn"]
-        others, again = self.of_others("τ{i}", "lent ℓ{i}"), ["tyRef erased mut (tyInt w32)", "lent erased"] * len(self.lent)
+        signature = f"ℕ → Name → Name → ({self.types} : Ty)" if self.through else f"ℕ → Name → ({self.types} : Ty) → Sym"
+        signature += " → Lifetime" * len(self.lent)
+        again = ["tyRef erased mut (tyInt w32)", "lent erased"] * len(self.lent)
+        others = self.of_others("τ{i}", "lent ℓ{i}")
         kinds = ["τ", "τb", "τR", *others, "τV"] if self.through else ["τ", "view ν τb τR", *others, "τB", "τR"]
         *steps, last = self.body()
-        return [f"abbrev pub {self.name} : {' → '.join(signature)}", f"{self.name} {self.names} = record {{",
+        return [f"abbrev pub {self.name} : {signature} → Fn", f"{self.name} {self.names} = record {{",
                 "  lifetimes = n;", "  outlives = [];", f"  params = {self.params};",
                 f"  locals = values ({listed(kinds + again)});", "  body =",
-                *[f"      seq ({step}) (" for step in steps], f"      seq ({last}) return" + ")" * len(steps) + ";", "}"]
+                *[f"      seq ({step}) (" for step in steps],
+                f"      seq ({last}) return" + ")" * len(steps) + ";", "}"]
 
     def body(self):
         if self.through:
@@ -177,66 +195,80 @@ class Shape:
         return self.made + [self.again[i][1] if kind == "lent" else i for i, kind in self.others]
 
     def law(self):
-        binders = ["{n : ℕ}", f"{{{'g f' if self.through else 'f'} : Name}}", f"{{{self.types} : Ty}}",
+        return [*self.states(), *self.binds(), "      record {", *self.walk(), "      }"]
+
+    def states(self):
+        binders = ["{n : ℕ}", "{g f : Name}" if self.through else "{f : Name}", f"{{{self.types} : Ty}}",
                    *([] if self.through else ["{ν : Sym}"]), *[f"{{ℓ{i} : Lifetime}}" for i in self.lent],
-                   f"{{vb vR{self.each('v{i}', self.values)} : Val}}", *[f"{{b{i} o{i} n{i} : ℕ}}" for i in self.lent]]
-        held = f"{self.names} vb vR{self.each('v{i}', self.values)}{self.each('b{i} o{i} n{i}', self.lent)}".split()
-        typed = ["Typed τb vb", "Typed τR vR"] if self.through else ["Typed (view ν τb τR) (viewed vb vR)", "Typed τB vb", "Typed τR vR"]
-        typed.append(f"AllTyped ({listed(self.of_others('τ{i}', 'lent ℓ{i}'))}) ({listed(self.of_others('v{i}', 'slice b{i} o{i} n{i}'))})")
-        facts = "b-is R-is is" if self.through else "whole-is b-is R-is is"
-        passes = f"PassesTwice 𝓤 H A C Λ g (vb ∷ vR ∷ []) τV f (λ x. {self.passed})" if self.through else f"Passes 𝓤 H A C Λ f ({self.passed})"
-        shown = "Pre Gives Gives′ Post asks between after" if self.through else "Pre Gives Post asks after"
+                   f"{{{self.vals} : Val}}", *[f"{{b{i} o{i} n{i} : ℕ}}" for i in self.lent]]
+        if self.through:
+            typed = "Typed τb vb → Typed τR vR"
+            passes = f"PassesTwice 𝓤 H A C Λ g (vb ∷ vR ∷ []) τV f (λ x. {self.passed})"
+        else:
+            typed = "Typed (view ν τb τR) (viewed vb vR) → Typed τB vb → Typed τR vR"
+            passes = f"Passes 𝓤 H A C Λ f ({self.passed})"
         return [*filled("  ", [f"pub {self.name}-runs :", *binders], hang="    "),
-                f"      → {' → '.join(typed[:-1])}", f"      → {typed[-1]}",
-                *filled("      ", [f"→ {passes}", "(τ ∷ [])", f"({self.name} {self.names})", f"({self.mine})"]),
-                *filled("  ", [f"{self.name}-runs", *[f"{{{name}}}" for name in held], facts, "="], hang="    "),
-                "      record {", f"        run = λ {shown}.",
-                *filled(" " * 12, ["qed W (raw Pre ∷ []) ∵", f"enter ! C Λ ({self.name} {self.names})", f"({self.mine})", "Post $"]),
-                *self.entry(), *(self.through_run() if self.through else self.run()), *self.exit(), "      }"]
+                f"      → {typed}", f"      → {self.all_typed}",
+                *filled("      ", [f"→ {passes}", "(τ ∷ [])", f"({self.name} {self.names})", f"({self.mine})"])]
+
+    def binds(self):
+        names = [*self.names.split(), *self.vals.split(), *[f"{k}{i}" for i in self.lent for k in "bon"]]
+        facts = "b-is R-is is" if self.through else "whole-is b-is R-is is"
+        return filled("  ", [f"{self.name}-runs", *[f"{{{name}}}" for name in names], facts, "="], hang="    ")
+
+    def walk(self):
+        shown = "Pre Gives Gives′ Post asks between after" if self.through else "Pre Gives Post asks after"
+        enters = ["qed W (raw Pre ∷ []) ∵", f"enter ! C Λ ({self.name} {self.names})", f"({self.mine})", "Post $"]
+        steps = self.through_run() if self.through else self.run()
+        return [f"        run = λ {shown}.", *filled(DEEP, enters), *self.entry(), *steps, *self.exit()]
 
     def entry(self):
         """the locals are made, and the parameters stored"""
         facts = ["b-is", "R-is"] if self.through else ["whole-is"]
         facts += [f"({self.fact(i)})" for i, _ in self.others]
-        return filled(" " * 12, [f"alloc1 ! (λ at{i}." for i in range(self.count)] + ["alloc0 ! $", "params1 ! $"]) + \
-            filled(" " * 12, [f"pass1 ! (init ! {self.at(i, 0)} refl {fact}) $" for i, fact in enumerate(facts, 1)] + ["pass0 ! $"])
+        made = [f"alloc1 ! (λ at{i}." for i in range(self.count)] + ["alloc0 ! $", "params1 ! $"]
+        passed = [f"pass1 ! (init ! {self.at(i, 0)} refl {fact}) $" for i, fact in enumerate(facts, 1)]
+        return filled(DEEP, made) + filled(DEEP, passed + ["pass0 ! $"])
 
     def run(self):
-        lines = [f"            assigns ! (of-opd ! {part_held(self.at(1, 0), k)}) (from ! (stop !)) (init ! {self.at(i, 0)} refl {fact}) $"
+        taken = [f"{DEEP}assigns ! (of-opd ! {part_held(self.at(1, 0), k)}) {stored(self.at(i, 0), fact)}"
                  for k, (i, fact) in enumerate(zip(self.made, ["b-is", "R-is"]))]
-        return lines + self.lends(0) + [f"            move ! ({2 * self.count} ∷ []) $"] + \
-            self.call("Pre", self.passed, "Gives", "asks", self.operands(), "u") + self.learned("u", "Post u", "after u")
+        return [*taken, *self.lends(0), f"{DEEP}move ! ({2 * self.count} ∷ []) $",
+                *self.call("Pre", self.passed, "Gives", "asks", self.operands(), "u"),
+                *learned("u", TYPED, "Post u", "after u")]
 
     def through_run(self):
         then = f"C f ({self.passed}) Gives′"
-        return [f"            move ! ({2 * self.count} ∷ []) $"] + self.call("Pre", "vb ∷ vR ∷ []", "Gives", "asks", [1, 2], "x") + \
-            self.learned("x", then, "between x", "Typed τV x") + [f"            land ! (from ! (stop !)) (init ! {self.at(self.made[0], 1)} refl x-is) $"] + \
-            self.lends(1) + self.call(then, self.passed, "Gives′", "(id⊢ 𝓤 _)", self.operands(), "u") + self.learned("u", "Post u", "after u")
+        return [f"{DEEP}move ! ({2 * self.count} ∷ []) $",
+                *self.call("Pre", "vb ∷ vR ∷ []", "Gives", "asks", [1, 2], "x"),
+                *learned("x", "Typed τV x", then, "between x"),
+                f"{DEEP}land ! {stored(self.at(self.made[0], 1), 'x-is')}", *self.lends(1),
+                *self.call(then, self.passed, "Gives′", "(id⊢ 𝓤 _)", self.operands(), "u"),
+                *learned("u", TYPED, "Post u", "after u")]
 
     def lends(self, front):
         """each `&mut` is lent on: its pointer and its length are taken, and put together again"""
         lines = []
         for i, (pointer, whole) in self.again.items():
-            cell = self.at(i, front)
-            lines += [f"            assigns ! (addr ! (from ! (fld ! refl (hop ! (look-in ! {cell} (sub ! 0 refl (whole !))) (stop !)))))",
-                      f"            (from ! (stop !)) (init ! {self.at(pointer, front)} refl (tt, tt)) $",
-                      f"            assigns ! (agg ! (and-then ! (held ! {self.at(pointer, front)} refl)",
-                      f"            (and-then ! {part_held(cell, 1)} (no-more !))))",
-                      f"            (from ! (stop !)) (init ! {self.at(whole, front)} refl (tt, {self.fact(i)} .1)) $"]
-        return lines
+            cell, at_pointer = self.at(i, front), self.at(pointer, front)
+            behind = f"(hop ! (look-in ! {cell} (sub ! 0 refl (whole !))) (stop !))"
+            lines += [f"assigns ! (addr ! (from ! (fld ! refl {behind})))", stored(at_pointer, "(tt, tt)"),
+                      f"assigns ! (agg ! (and-then ! (held ! {at_pointer} refl)",
+                      f"(and-then ! {part_held(cell, 1)} (no-more !))))",
+                      stored(self.at(whole, front), f"(tt, {self.fact(i)} .1)")]
+        return [DEEP + line for line in lines]
 
     def call(self, asked, values, gives, met, operands, result):
         held = [f"(and-then ! (held ! {self.at(i, 1)} refl)" for i in operands]
-        return filled(" " * 12, [f"calls-from ! fm (raw ({asked})) ({values}) {gives} {met}", *held, "(no-more !)" + ")" * len(held), f"(λ {result}."])
-
-    def learned(self, result, then, by, typed="AllTyped (τ ∷ []) (u ∷ [])"):
-        return [f"            use1 W (later (given ({typed}) (raw ({then})))) ({by}) $ await ! tt $ learn ! (λ {result}-is."]
+        called = f"calls-from ! fm (raw ({asked})) ({values}) {gives} {met}"
+        return filled(DEEP, [called, *held, "(no-more !)" + ")" * len(held), f"(λ {result}."])
 
     def exit(self):
         result = self.at(0, 1)
-        return [f"            land ! (from ! (stop !)) (init ! {result} refl (u-is .0)) $ returns ! (look ! {result} refl) $",
-                *filled(" " * 12, [f"let-go ! {self.at(i, 1)} refl refl $" for i in range(self.count)]),
-                "            free0 ! $ by ! (id⊢ 𝓤 (Post u))" + ")" * (self.count + (4 if self.through else 2)) + ";"]
+        opened = self.count + (4 if self.through else 2)
+        return [f"{DEEP}land ! {stored(result, '(u-is .0)')} returns ! (look ! {result} refl) $",
+                *filled(DEEP, [f"let-go ! {self.at(i, 1)} refl refl $" for i in range(self.count)]),
+                f"{DEEP}free0 ! $ by ! (id⊢ 𝓤 (Post u)){')' * opened};"]
 
 
 def shapes_text(shapes):
@@ -263,7 +295,8 @@ module _ {M : Type 1} (𝓤 : URA M) (H : Heap 𝓤) (A : Atoms 𝓤) (C : Calls
         → ent 𝓤 Pre (WpFn 𝓤 H C Λ code vs Post)
 
   -- code that calls g, and then f on what it got of the type τV
-  pub record PassesTwice (g : Name) (made : List Val) (τV : Ty) (f : Name) (args : Val → List Val) (τs : List Ty) (code : Fn) (vs : List Val) : Type 2 where
+  pub record PassesTwice (g : Name) (made : List Val) (τV : Ty) (f : Name) (args : Val → List Val) (τs : List Ty) (code : Fn)
+      (vs : List Val) : Type 2 where
     pub run : (Pre : SProp 𝓤) (Gives Gives′ Post : Val → SProp 𝓤) → ent 𝓤 Pre (C g made Gives)
         → ((x : Val) → ent 𝓤 (Gives x) (mean 𝓤 H A (later (given (Typed τV x) (raw (C f (args x) Gives′))))))
         → ((u : Val) → ent 𝓤 (Gives′ u) (mean 𝓤 H A (later (given (AllTyped τs (u ∷ [])) (raw (Post u))))))
@@ -326,26 +359,32 @@ def imports(function, shape):
         yield f"use Rattle.{crate}.proofs.{name} as {name}"
         yield f"use Rattle.{crate}.proofs.{name}.Laws as {name}′"
     callee, own = module_of(function.callee), module_of(["font", *function.path])
-    yield from [f"use {callee} as callee"] if not function.through else []
-    yield from [f"use {callee}.Symbol as callee-def", f"use {callee}.Symbol.{{name as #callee}}", f"use {callee}.Met as callee-thm"]
-    yield from [f"use {own}.Key.{{name as #fn}}", f"use {own} as fn", f"use {own}.Statement as stated", f"use {own}.Code as code"]
+    if not function.through:
+        yield f"use {callee} as callee"
+    yield f"use {callee}.Symbol as callee-def"
+    yield f"use {callee}.Symbol.{{name as #callee}}"
+    yield f"use {callee}.Met as callee-thm"
+    yield f"use {own}.Key.{{name as #fn}}"
+    yield f"use {own} as fn"
+    yield f"use {own}.Statement as stated"
+    yield f"use {own}.Code as code"
 
 
 def proof_text(function, shape):
     me, other = "::".join(["font", *function.path]), "::".join(function.callee)
     spec = function.name.replace("_", "-") + "-spec"
     others = [f"(λ κs. {t.single}) &" for t in function.others] + ["tt"]
-    calls = "code.calls-" + "·".join(function.callee).replace("_", "-")
+    calls = "#callee callee-def.routine code.calls-" + "·".join(function.callee).replace("_", "-")
     if function.through:
-        says = f"-- `{me}` promises what `{other}` does, of the view that it makes (`Through`): its code makes it, and passes it on (`Shapes`)."
-        params, kept, law, contract = "past (past (fn.signature .params))", ".1 .1", "through-spec", "fn"
-        calls, bound = f"code.calls-font·open #callee callee-def.routine {calls}", "vb vR a"
+        says = "of the view that it makes (`Through`): its code makes one, and passes it on (`Shapes`)."
+        params, kept, law, contract, bound = "past (past (fn.signature .params))", ".1 .1", "through-spec", "fn", "vb vR a"
+        calls = f"code.calls-font·open {calls}"
     else:
-        says = f"-- `{me}` promises what `{other}` does, of the view's fields (`Passing`): its code passes them on (`Shapes`)."
-        params, kept, law, contract = "past (fn.signature .params)", ".1", "view-spec", "callee"
-        calls, bound = f"#callee callee-def.routine {calls}", "d a"
+        says = "of the view's fields (`Passing`): its code passes them on (`Shapes`)."
+        params, kept, law, contract, bound = "past (fn.signature .params)", ".1", "view-spec", "callee", "d a"
     return "\n".join([
-        says, "-- Written by tools/view.py.", *imports(function, shape), "",
+        *filled("-- ", [f"`{me}` promises what `{other}` does,", *says.split()], width=140), "-- Written by tools/view.py.",
+        *imports(function, shape), "",
         f"pub {spec} : {{M : Type 1}} → stated.statement M", "unfolding code.routine", f"{spec} 𝓤 H 𝓜 𝓖 𝓡 =",
         f"    {law} 𝓤 H 𝓜 𝓖 𝓡 {function.lifetimes - 1} ({params}) (fn.ended .kept {kept}) (fn.signature .result)",
         *(filled("    ", ["(" + others[0], *others[1:]], ")") if function.others else ["    tt"]),

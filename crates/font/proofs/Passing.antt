@@ -210,8 +210,13 @@ module _ {M : Type 1} (𝓤 : URA M) (H : Heap 𝓤) (A : Atoms 𝓤) (W : Given
         spelled 𝓤 H A (by-view n ss ks ρ .signature) (closing 𝓤 H A (by-view n ss ks ρ) (of-view n ss ks ρ c)) (WpFn 𝓤 H C Λ code) y
         (LL.vals (T.the-type α) (T′.the-laws α), spells κs ss ls) (LL.tells (T.the-type α) (T′.the-laws α), tellss κs ss ls) (λ are.
         let is : Typed (T′.mir (named 0)) (T′.lowered d) = LL.lawful (T.the-type α) (T′.the-laws α) 𝓤 H A W .typed d _ (are .0) .0 in
-        passes C Λ fm κs d a is (tt, is .1 .0) (tt, is .1 .1 .0) (all-typed 𝓤 H A (typesAt ss κs) (lawfuls κs 𝓤 H A W ss ls) a vs (are .1)) .run _ _ _
-        (via 𝓤 _ (asks 𝓤 H A n ss ks ρ c W κs qs d a vs (y .1)) (known (fields-at 𝓤 H A n ss ks ρ c W κs qs d a vs (y .1))))
+        passes C Λ fm κs d a is (tt, is .1 .0) (tt, is .1 .1 .0) (all-typed 𝓤 H A (typesAt ss κs) (lawfuls κs 𝓤 H A W ss ls) a vs (are .1)) .run
+        (OfView 𝓤 H A n ss ks ρ c .pre (view-at 𝓤 H A n ss ks ρ c W κs qs d a vs (y .1) (T′.lowered d)))
+        (OfFields 𝓤 H A n ss ks ρ c .post (fields-at 𝓤 H A n ss ks ρ c W κs qs d a vs (y .1)))
+        (OfView 𝓤 H A n ss ks ρ c .post (view-at 𝓤 H A n ss ks ρ c W κs qs d a vs (y .1) (T′.lowered d)))
+        (via 𝓤 (OfFields 𝓤 H A n ss ks ρ c .pre (fields-at 𝓤 H A n ss ks ρ c W κs qs d a vs (y .1)))
+        (asks 𝓤 H A n ss ks ρ c W κs qs d a vs (y .1))
+        (known (fields-at 𝓤 H A n ss ks ρ c W κs qs d a vs (y .1))))
         (λ u. gives 𝓤 H A n ss ks ρ c W κs qs d a vs (y .1) (T′.lowered d) u (ρ-is κs .lawful 𝓤 H A W)))
 
 module _ {M : Type 1} (𝓤 : URA M) (H : Heap 𝓤) (𝓜 : Model 𝓤 H) (𝓖 : GhostRules 𝓤 H) (𝓡 : Running 𝓤 H 𝓜) (n : ℕ) (ss : List (Slot (suc n))) (ks : Kepts ss)

@@ -15,7 +15,8 @@ module _ {M : Type 1} (𝓤 : URA M) (H : Heap 𝓤) (A : Atoms 𝓤) (C : Calls
         → ent 𝓤 Pre (WpFn 𝓤 H C Λ code vs Post)
 
   -- code that calls g, and then f on what it got of the type τV
-  pub record PassesTwice (g : Name) (made : List Val) (τV : Ty) (f : Name) (args : Val → List Val) (τs : List Ty) (code : Fn) (vs : List Val) : Type 2 where
+  pub record PassesTwice (g : Name) (made : List Val) (τV : Ty) (f : Name) (args : Val → List Val) (τs : List Ty) (code : Fn)
+      (vs : List Val) : Type 2 where
     pub run : (Pre : SProp 𝓤) (Gives Gives′ Post : Val → SProp 𝓤) → ent 𝓤 Pre (C g made Gives)
         → ((x : Val) → ent 𝓤 (Gives x) (mean 𝓤 H A (later (given (Typed τV x) (raw (C f (args x) Gives′))))))
         → ((u : Val) → ent 𝓤 (Gives′ u) (mean 𝓤 H A (later (given (AllTyped τs (u ∷ [])) (raw (Post u))))))

@@ -1,4 +1,5 @@
--- `font::shown::char_through` promises what `font::Font::draw_char` does, of the view that it makes (`Through`): its code makes it, and passes it on (`Shapes`).
+-- `font::shown::char_through` promises what `font::Font::draw_char` does, of the view that it makes (`Through`): its code makes one, and
+-- passes it on (`Shapes`).
 -- Written by tools/view.py.
 use contract.Running.{givenOf}
 use denote.Builtin.{u32}
