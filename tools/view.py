@@ -41,12 +41,13 @@ class Type:
                 fail(f"{text}: the shapes know no `&mut` but of `[u32]`")
             self.maker, self.of = "lent-mut" if slice_[1] else "lent-shared", slice_[2]
             self.single = f"{self.maker} (named {lifetime}) (κs{' .1' * lifetime} .0) {self.of}"
+            self.mir = f"shared (named {lifetime}) {WIDTHS[self.of]}"
         elif text in WIDTHS:
             self.kind, self.maker, self.of = "value", "number", WIDTHS[text]
-            self.single = f"number {self.of}"
+            self.single, self.mir = f"number {self.of}", f"tyInt {self.of}"
         else:
             self.kind, self.declared = "value", [(home_of(text, source), text)]
-            self.maker, self.of = declared_as(*self.declared[0]), None
+            self.maker, self.of, self.mir = declared_as(*self.declared[0]), None, f"{text}′.mir"
             self.single = f"{self.maker} {text}.the-type {text}′.the-laws" + (" tt" if self.maker == "enum" else "")
 
 
@@ -346,15 +347,17 @@ def imports(function, shape):
     yield "use contract.Running.{givenOf}"
     if slices:
         yield f"use denote.Builtin.{{{', '.join(slices)}}}"
-    if numbers or slices:
-        yield f"use mir.Syntax.{{{', '.join((['named'] if slices else []) + numbers)}}}"
-    law = "Through.{through-spec}" if function.through else "Passing.{past, view-spec}"
+    yield f"use mir.Syntax.{{{', '.join(['named, erased', *(['tyInt'] if numbers else []), *sorted({'w8', *numbers})])}}}"
     if function.through:
-        yield "use Rattle.font.proofs.Passing.{past}"
-    yield f"use Rattle.font.proofs.{law}"
+        yield "use Rattle.font.proofs.Font.Laws as Font′"
+        yield "use Rattle.font.proofs.Passing.{past, shared}"
+        yield "use Rattle.font.proofs.Through.{through-spec}"
+    else:
+        yield "use Rattle.font.proofs.Passing.{past, shared, bytes-of, view-spec}"
     yield f"use Rattle.font.proofs.Shapes.{{{shape}-runs}}"
     makers = sorted({t.maker for t in types}) + (["_&_"] if function.others else [])
     yield f"use Rattle.font.proofs.Single.{{{', '.join(makers)}}}"
+    yield "use Rattle.tables.proofs.Record.Laws as Record′"
     for crate, name in sorted({declared for t in types for declared in t.declared}):
         yield f"use Rattle.{crate}.proofs.{name} as {name}"
         yield f"use Rattle.{crate}.proofs.{name}.Laws as {name}′"
@@ -391,7 +394,19 @@ def proof_text(function, shape):
         f"    (λ κs. {function.result.single})",
         f"    ({contract}.clauses 𝓤 H (𝓖 .A) (𝓜 .mem) (𝓡 .run)) code.env #fn code.function (code.unfolded 𝓤 H 𝓜 𝓡)",
         f"    {calls} (callee-thm.met 𝓤 H 𝓜 𝓖 𝓡)",
-        f"    (λ C Λ fm κs {bound}. {shape}-runs 𝓤 H (𝓖 .A) (givenOf 𝓤 H 𝓜 𝓖) C Λ fm)", ""])
+        f"    (λ C Λ fm κs {bound}. {shape}-runs 𝓤 H (𝓖 .A) (givenOf 𝓤 H 𝓜 𝓖) C Λ fm",
+        *filled("    ", types_of(function), ")"), ""])
+
+
+def types_of(function):
+    """the types that the shape leaves open, by their names: antt would find them, and write them out"""
+    others = [f"{{τ{i} = {t.mir}}}" for i, t in enumerate(function.others, 3 if function.through else 2)
+              if t.kind == "value"]
+    if function.through:
+        return [f"{{τ = {function.result.mir}}}", "{τb = shared (named 0) w8}", "{τR = Record′.mir}",
+                "{τV = Font′.mir erased}", *others]
+    return [f"{{τ = {function.result.mir}}}", "{τb = shared (named 0) w8}", "{τB = shared erased w8}",
+            "{τR = Record′.mir}", *others, "{vb = bytes-of d}", "{vR = Record′.lowered (d .rec)}"]
 
 
 def written():

@@ -1,9 +1,11 @@
 -- `font::Font::dimensions` promises what `place::dimensions` does, of the view's fields (`Passing`): its code passes them on (`Shapes`).
 -- Written by tools/view.py.
 use contract.Running.{givenOf}
-use Rattle.font.proofs.Passing.{past, view-spec}
+use mir.Syntax.{named, erased, w8}
+use Rattle.font.proofs.Passing.{past, shared, bytes-of, view-spec}
 use Rattle.font.proofs.Shapes.{takes-view-runs}
 use Rattle.font.proofs.Single.{enum}
+use Rattle.tables.proofs.Record.Laws as Record′
 use Rattle.place.proofs.Sized as Sized
 use Rattle.place.proofs.Sized.Laws as Sized′
 use Rattle.place.proofs.dimensions as callee
@@ -23,4 +25,5 @@ dimensions-spec 𝓤 H 𝓜 𝓖 𝓡 =
     (λ κs. enum Sized.the-type Sized′.the-laws tt)
     (callee.clauses 𝓤 H (𝓖 .A) (𝓜 .mem) (𝓡 .run)) code.env #fn code.function (code.unfolded 𝓤 H 𝓜 𝓡)
     #callee callee-def.routine code.calls-place·dimensions (callee-thm.met 𝓤 H 𝓜 𝓖 𝓡)
-    (λ C Λ fm κs d a. takes-view-runs 𝓤 H (𝓖 .A) (givenOf 𝓤 H 𝓜 𝓖) C Λ fm)
+    (λ C Λ fm κs d a. takes-view-runs 𝓤 H (𝓖 .A) (givenOf 𝓤 H 𝓜 𝓖) C Λ fm
+    {τ = Sized′.mir} {τb = shared (named 0) w8} {τB = shared erased w8} {τR = Record′.mir} {vb = bytes-of d} {vR = Record′.lowered (d .rec)})

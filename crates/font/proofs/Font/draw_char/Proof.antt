@@ -2,10 +2,11 @@
 -- Written by tools/view.py.
 use contract.Running.{givenOf}
 use denote.Builtin.{u32}
-use mir.Syntax.{named, w32, w64}
-use Rattle.font.proofs.Passing.{past, view-spec}
+use mir.Syntax.{named, erased, tyInt, w32, w64, w8}
+use Rattle.font.proofs.Passing.{past, shared, bytes-of, view-spec}
 use Rattle.font.proofs.Shapes.{takes-char-runs}
 use Rattle.font.proofs.Single.{enum, lent-mut, number, struct, _&_}
+use Rattle.tables.proofs.Record.Laws as Record′
 use Rattle.glyphs.proofs.CharDrawn as CharDrawn
 use Rattle.glyphs.proofs.CharDrawn.Laws as CharDrawn′
 use Rattle.reads.proofs.CharCode as CharCode
@@ -28,4 +29,6 @@ draw-char-spec 𝓤 H 𝓜 𝓖 𝓡 =
     (λ κs. enum CharDrawn.the-type CharDrawn′.the-laws tt)
     (callee.clauses 𝓤 H (𝓖 .A) (𝓜 .mem) (𝓡 .run)) code.env #fn code.function (code.unfolded 𝓤 H 𝓜 𝓡)
     #callee callee-def.routine code.calls-glyphs·draw-char (callee-thm.met 𝓤 H 𝓜 𝓖 𝓡)
-    (λ C Λ fm κs d a. takes-char-runs 𝓤 H (𝓖 .A) (givenOf 𝓤 H 𝓜 𝓖) C Λ fm)
+    (λ C Λ fm κs d a. takes-char-runs 𝓤 H (𝓖 .A) (givenOf 𝓤 H 𝓜 𝓖) C Λ fm
+    {τ = CharDrawn′.mir} {τb = shared (named 0) w8} {τB = shared erased w8} {τR = Record′.mir} {τ2 = CharCode′.mir} {τ4 = tyInt w64} {τ5 = tyInt w64}
+    {τ6 = tyInt w64} {τ7 = tyInt w32} {vb = bytes-of d} {vR = Record′.lowered (d .rec)})

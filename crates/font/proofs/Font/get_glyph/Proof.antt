@@ -1,9 +1,11 @@
 -- `font::Font::get_glyph` promises what `lookup::get_glyph` does, of the view's fields (`Passing`): its code passes them on (`Shapes`).
 -- Written by tools/view.py.
 use contract.Running.{givenOf}
-use Rattle.font.proofs.Passing.{past, view-spec}
+use mir.Syntax.{named, erased, w8}
+use Rattle.font.proofs.Passing.{past, shared, bytes-of, view-spec}
 use Rattle.font.proofs.Shapes.{takes-value-runs}
 use Rattle.font.proofs.Single.{enum, struct, _&_}
+use Rattle.tables.proofs.Record.Laws as Record′
 use Rattle.lookup.proofs.Found as Found
 use Rattle.lookup.proofs.Found.Laws as Found′
 use Rattle.reads.proofs.CharCode as CharCode
@@ -25,4 +27,6 @@ get-glyph-spec 𝓤 H 𝓜 𝓖 𝓡 =
     (λ κs. enum Found.the-type Found′.the-laws tt)
     (callee.clauses 𝓤 H (𝓖 .A) (𝓜 .mem) (𝓡 .run)) code.env #fn code.function (code.unfolded 𝓤 H 𝓜 𝓡)
     #callee callee-def.routine code.calls-lookup·get-glyph (callee-thm.met 𝓤 H 𝓜 𝓖 𝓡)
-    (λ C Λ fm κs d a. takes-value-runs 𝓤 H (𝓖 .A) (givenOf 𝓤 H 𝓜 𝓖) C Λ fm)
+    (λ C Λ fm κs d a. takes-value-runs 𝓤 H (𝓖 .A) (givenOf 𝓤 H 𝓜 𝓖) C Λ fm
+    {τ = Found′.mir} {τb = shared (named 0) w8} {τB = shared erased w8} {τR = Record′.mir} {τ2 = CharCode′.mir} {vb = bytes-of d}
+    {vR = Record′.lowered (d .rec)})

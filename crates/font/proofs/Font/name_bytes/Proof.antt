@@ -2,10 +2,11 @@
 -- Written by tools/view.py.
 use contract.Running.{givenOf}
 use denote.Builtin.{u8}
-use mir.Syntax.{named}
-use Rattle.font.proofs.Passing.{past, view-spec}
+use mir.Syntax.{named, erased, w8}
+use Rattle.font.proofs.Passing.{past, shared, bytes-of, view-spec}
 use Rattle.font.proofs.Shapes.{takes-value-runs}
 use Rattle.font.proofs.Single.{lent-shared, struct, _&_}
+use Rattle.tables.proofs.Record.Laws as Record′
 use Rattle.reads.proofs.GlyphIndex as GlyphIndex
 use Rattle.reads.proofs.GlyphIndex.Laws as GlyphIndex′
 use Rattle.names.proofs.name_bytes as callee
@@ -25,4 +26,6 @@ name-bytes-spec 𝓤 H 𝓜 𝓖 𝓡 =
     (λ κs. lent-shared (named 0) (κs .0) u8)
     (callee.clauses 𝓤 H (𝓖 .A) (𝓜 .mem) (𝓡 .run)) code.env #fn code.function (code.unfolded 𝓤 H 𝓜 𝓡)
     #callee callee-def.routine code.calls-names·name-bytes (callee-thm.met 𝓤 H 𝓜 𝓖 𝓡)
-    (λ C Λ fm κs d a. takes-value-runs 𝓤 H (𝓖 .A) (givenOf 𝓤 H 𝓜 𝓖) C Λ fm)
+    (λ C Λ fm κs d a. takes-value-runs 𝓤 H (𝓖 .A) (givenOf 𝓤 H 𝓜 𝓖) C Λ fm
+    {τ = shared (named 0) w8} {τb = shared (named 0) w8} {τB = shared erased w8} {τR = Record′.mir} {τ2 = GlyphIndex′.mir} {vb = bytes-of d}
+    {vR = Record′.lowered (d .rec)})

@@ -1,9 +1,11 @@
 -- `font::Font::prep_char` promises what `place::prep_char` does, of the view's fields (`Passing`): its code passes them on (`Shapes`).
 -- Written by tools/view.py.
 use contract.Running.{givenOf}
-use Rattle.font.proofs.Passing.{past, view-spec}
+use mir.Syntax.{named, erased, w8}
+use Rattle.font.proofs.Passing.{past, shared, bytes-of, view-spec}
 use Rattle.font.proofs.Shapes.{takes-value-runs}
 use Rattle.font.proofs.Single.{enum, struct, _&_}
+use Rattle.tables.proofs.Record.Laws as Record′
 use Rattle.place.proofs.Prepared as Prepared
 use Rattle.place.proofs.Prepared.Laws as Prepared′
 use Rattle.reads.proofs.CharCode as CharCode
@@ -25,4 +27,6 @@ prep-char-spec 𝓤 H 𝓜 𝓖 𝓡 =
     (λ κs. enum Prepared.the-type Prepared′.the-laws tt)
     (callee.clauses 𝓤 H (𝓖 .A) (𝓜 .mem) (𝓡 .run)) code.env #fn code.function (code.unfolded 𝓤 H 𝓜 𝓡)
     #callee callee-def.routine code.calls-place·prep-char (callee-thm.met 𝓤 H 𝓜 𝓖 𝓡)
-    (λ C Λ fm κs d a. takes-value-runs 𝓤 H (𝓖 .A) (givenOf 𝓤 H 𝓜 𝓖) C Λ fm)
+    (λ C Λ fm κs d a. takes-value-runs 𝓤 H (𝓖 .A) (givenOf 𝓤 H 𝓜 𝓖) C Λ fm
+    {τ = Prepared′.mir} {τb = shared (named 0) w8} {τB = shared erased w8} {τR = Record′.mir} {τ2 = CharCode′.mir} {vb = bytes-of d}
+    {vR = Record′.lowered (d .rec)})

@@ -3,11 +3,13 @@
 -- Written by tools/view.py.
 use contract.Running.{givenOf}
 use denote.Builtin.{u32}
-use mir.Syntax.{named, w32, w64}
-use Rattle.font.proofs.Passing.{past}
+use mir.Syntax.{named, erased, tyInt, w32, w64, w8}
+use Rattle.font.proofs.Font.Laws as Font′
+use Rattle.font.proofs.Passing.{past, shared}
 use Rattle.font.proofs.Through.{through-spec}
 use Rattle.font.proofs.Shapes.{char-through-runs}
 use Rattle.font.proofs.Single.{enum, lent-mut, number, struct, _&_}
+use Rattle.tables.proofs.Record.Laws as Record′
 use Rattle.glyphs.proofs.CharDrawn as CharDrawn
 use Rattle.glyphs.proofs.CharDrawn.Laws as CharDrawn′
 use Rattle.reads.proofs.CharCode as CharCode
@@ -29,4 +31,6 @@ char-through-spec 𝓤 H 𝓜 𝓖 𝓡 =
     (λ κs. enum CharDrawn.the-type CharDrawn′.the-laws tt)
     (fn.clauses 𝓤 H (𝓖 .A) (𝓜 .mem) (𝓡 .run)) code.env #fn code.function (code.unfolded 𝓤 H 𝓜 𝓡)
     code.calls-font·open #callee callee-def.routine code.calls-font·Font·draw-char (callee-thm.met 𝓤 H 𝓜 𝓖 𝓡)
-    (λ C Λ fm κs vb vR a. char-through-runs 𝓤 H (𝓖 .A) (givenOf 𝓤 H 𝓜 𝓖) C Λ fm)
+    (λ C Λ fm κs vb vR a. char-through-runs 𝓤 H (𝓖 .A) (givenOf 𝓤 H 𝓜 𝓖) C Λ fm
+    {τ = CharDrawn′.mir} {τb = shared (named 0) w8} {τR = Record′.mir} {τV = Font′.mir erased} {τ3 = CharCode′.mir} {τ5 = tyInt w64} {τ6 = tyInt w64}
+    {τ7 = tyInt w64} {τ8 = tyInt w32})

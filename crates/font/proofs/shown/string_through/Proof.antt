@@ -3,11 +3,13 @@
 -- Written by tools/view.py.
 use contract.Running.{givenOf}
 use denote.Builtin.{u32, u8}
-use mir.Syntax.{named, w32, w64}
-use Rattle.font.proofs.Passing.{past}
+use mir.Syntax.{named, erased, tyInt, w32, w64, w8}
+use Rattle.font.proofs.Font.Laws as Font′
+use Rattle.font.proofs.Passing.{past, shared}
 use Rattle.font.proofs.Through.{through-spec}
 use Rattle.font.proofs.Shapes.{string-through-runs}
 use Rattle.font.proofs.Single.{enum, lent-mut, lent-shared, number, _&_}
+use Rattle.tables.proofs.Record.Laws as Record′
 use Rattle.text.proofs.TextDrawn as TextDrawn
 use Rattle.text.proofs.TextDrawn.Laws as TextDrawn′
 use Rattle.text.proofs.Wrap as Wrap
@@ -29,4 +31,6 @@ string-through-spec 𝓤 H 𝓜 𝓖 𝓡 =
     (λ κs. enum TextDrawn.the-type TextDrawn′.the-laws tt)
     (fn.clauses 𝓤 H (𝓖 .A) (𝓜 .mem) (𝓡 .run)) code.env #fn code.function (code.unfolded 𝓤 H 𝓜 𝓡)
     code.calls-font·open #callee callee-def.routine code.calls-font·Font·draw-string (callee-thm.met 𝓤 H 𝓜 𝓖 𝓡)
-    (λ C Λ fm κs vb vR a. string-through-runs 𝓤 H (𝓖 .A) (givenOf 𝓤 H 𝓜 𝓖) C Λ fm)
+    (λ C Λ fm κs vb vR a. string-through-runs 𝓤 H (𝓖 .A) (givenOf 𝓤 H 𝓜 𝓖) C Λ fm
+    {τ = TextDrawn′.mir} {τb = shared (named 0) w8} {τR = Record′.mir} {τV = Font′.mir erased} {τ3 = shared (named 1) w8} {τ5 = tyInt w64}
+    {τ6 = Wrap′.mir} {τ7 = tyInt w64} {τ8 = tyInt w64} {τ9 = tyInt w32})
