@@ -26,7 +26,7 @@ use Rattle.bitmaps.proofs.Painting.{painted-none}
 use Rattle.bitmaps.proofs.Pixels.{none-beyond}
 use Rattle.bitmaps.proofs.CutRule.{drawn-within}
 use Rattle.bitmaps.proofs.NoDots.{none-found}
-use Rattle.outcome.proofs.Answered.{shown-rows, unpacked-rows}
+use Rattle.outcome.proofs.Answered.{is-drawn, is-unpacked, shown-rows, unpacked-rows}
 use Rattle.place.specs.declared.GlyphInfo.{GlyphInfo}
 use Rattle.place.specs.declared.Prepared.{Prepared}
 use Rattle.glyphs.specs.Glyph.{placeOf, nothingDrawn, glyphDrawn, inInfo, glyphReady, drawGlyph}
@@ -142,9 +142,6 @@ module _ (s : List ℕ) (b : BitmapData) (i : GlyphInfo) (start stride : ℕ) wh
 past-tests : {A : Type 0} (refused : Refusal → A) (g : Permit) (d a : A) → ((r : Refusal) → refused r ≡ a → ⊥) → permitted refused g d ≡ a → d ≡ a
 past-tests refused Permit.Given d a h e = e
 past-tests refused (Permit.Refused r) d a h e = absurd (h r e)
-
-is-drawn : (r : Rows) (q : Refusal) → Drawn.Refused q ≡ Drawn.Rows r → ⊥
-is-drawn r q e = let z : _≡_ {A = ℕ} 0 1 = cc in omega arith
 
 module _ (s : List ℕ) (rec : Record) (at : Place) where
   -- ---- draw_bitmap
@@ -281,9 +278,6 @@ module _ (s : List ℕ) (rec : Record) (start stride : ℕ) (i : GlyphInfo) wher
 
   abbrev unpackAnswer : ℕ → Unpacked
   unpackAnswer len = unpackGlyph s rec i len start stride
-
-  is-unpacked : (n : ℕ) (q : Refusal) → Unpacked.Refused q ≡ Unpacked.Rows n → ⊥
-  is-unpacked n q e = let z : _≡_ {A = ℕ} 0 1 = cc in omega arith
 
   unpack-told : (len n : ℕ) → unpackAnswer len ≡ Unpacked.Rows n → glyphUnpacked s (rec .bitmaps) i len start stride ≡ Unpacked.Rows n
   unfolding unpackGlyph
