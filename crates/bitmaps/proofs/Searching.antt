@@ -6,8 +6,6 @@ use mathlib.Core.Logic.{_⊎_, inl, inr, ⊎-elim}
 use native.Mathlib.Nat.{le-of-suc-le-suc, not-suc-le-zero, eq-or-lt-of-le}
 use native.Mathlib.Numerals.{add-one}
 use native.Mathlib.Omega.{arith}
-use lib.Dec.{ltb}
-use borrow.Author.Tests.{ltb-true, ltb-false}
 use Rattle.reads.proofs.Tests.{never, split}
 use Rattle.bitmaps.specs.Paint.{some}
 
@@ -32,10 +30,6 @@ and-none false b e = refl
 -- tests that pass together are equal
 pub same-test : (a b : Bool) → (a ≡ true → b ≡ true) → (b ≡ true → a ≡ true) → a ≡ b
 same-test a b f g = split a (λ t. t ∙ sym (f t)) (λ t. split b (λ u. never (sym t ∙ g u)) (λ u. t ∙ sym u))
-
--- a number lies below another or not
-pub below-or-not : (k n : ℕ) {P : Type 0} → (k < n → P) → (n ≤ k → P) → P
-below-or-not k n f g = split (ltb k n) (λ t. f (ltb-true k n t)) (λ t. g (ltb-false k n t))
 
 -- a number below n that passes is found
 pub some-true : (n : ℕ) (f : ℕ → Bool) (k : ℕ) → k < n → f k ≡ true → some n f ≡ true
