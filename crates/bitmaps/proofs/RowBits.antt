@@ -1,25 +1,37 @@
--- The bits of a row: those of its bytes, and those of the row's bytes lent as a part of the file's.
-use Prim.Native.Nat.{ℕ, _+_, _-_, _*_, _/_, _%_, _≤_, _<_}
-use mathlib.Core.Path.{_≡_, ap, _∙_}
+-- The bits of a row whose bytes are lent as a part of the file's.
+use Prim.Native.Nat.{ℕ, _+_, _-_, _%_, _≤_, _<_}
+use mathlib.Core.Path.{_≡_, sym, ap, _∙_}
 use mathlib.Core.Bool.{Bool, _&&_}
 use mathlib.Core.List.{List}
 use native.Mathlib.Omega.{arith}
 use lib.Dec.{eqb, leb}
 use lib.ListN.{length, take, drop, getD, length-take, length-drop}
 use lib.Seq.{getD-take, getD-drop}
-use Rattle.bitmaps.specs.Rows.{rowByte, column, bitAt}
+use Rattle.bitmaps.specs.Units.{bitIndex, bitAt, byteOf}
+use Rattle.bitmaps.specs.Rows.{column}
 use Rattle.bitmaps.specs.Place.{Place, columnPlace}
 use Rattle.bitmaps.specs.Dots.{blockDot, rowDot}
 use Rattle.bitmaps.specs.Ink.{inRow, rowPast}
+use Rattle.bitmaps.specs.declared.Order.{Order}
 use Rattle.bitmaps.proofs.Searching.{some-same}
+use Rattle.bitmaps.proofs.UnitBits.{Octets, bit-held}
+use Rattle.bitmaps.proofs.DataBytes.{part-octets}
 
--- bit 8 × j + k of a row is column k of its byte j
-pub bit-of-byte : (s : List ℕ) (row j k : ℕ) → k < 8 → bitAt s row (8 * j + k) ≡ column (rowByte s row j) k
-unfolding bitAt
-bit-of-byte s row j k h =
-    let byte : (8 * j + k) / 8 ≡ j = omega arith in
-    let same : (8 * j + k) % 8 ≡ k = omega arith in
-    rw (byte, same)
+-- rows of the same bits have the same pixels
+module _ (f g : ℕ → Bool) (at : Place) (width : ℕ) (same : (c : ℕ) → c < width → f c ≡ g c) where
+  same-dots : (test : ℕ → Bool) → rowDot f at width test ≡ rowDot g at width test
+  unfolding rowDot
+  same-dots test =
+      some-same width (λ c. f c && blockDot (columnPlace at c) test) (λ c. g c && blockDot (columnPlace at c) test)
+      (λ c l. ap (λ (t : Bool). t && blockDot (columnPlace at c) test) (same c l))
+
+  pub same-past : (len : ℕ) → rowPast f at width len ≡ rowPast g at width len
+  unfolding rowPast
+  same-past len = same-dots (λ j. leb len j)
+
+  pub same-in : (i : ℕ) → inRow f at width i ≡ inRow g at width i
+  unfolding inRow
+  same-in i = same-dots (λ j. eqb i j)
 
 module _ (s : List ℕ) (from end : ℕ) where
   abbrev pub lentRow : List ℕ
@@ -28,25 +40,20 @@ module _ (s : List ℕ) (from end : ℕ) where
   pub lent-bytes : end ≤ length s → length lentRow ≡ end - from
   lent-bytes h = omega (arith, length-take (end - from) (drop from s), length-drop from s)
 
-  pub lent-bit : (c : ℕ) → c < 8 * (end - from) → bitAt lentRow 0 c ≡ bitAt s from c
-  unfolding bitAt
-  lent-bit c h =
-      let here : from + (0 + c / 8) ≡ from + c / 8 = omega arith in
-      ap (λ (x : ℕ). column x (c % 8))
-      (getD-take (end - from) (drop from s) (0 + c / 8) 0 (omega arith) ∙ getD-drop from s (0 + c / 8) 0 ∙ ap (λ (k : ℕ). getD s k 0) here)
+  module _ (o : Order) (bytes : Octets s) where
+    pub lent-bit : (c : ℕ) → byteOf o c < end - from → bitAt lentRow o 0 c ≡ bitAt s o from c
+    lent-bit c h =
+        let k = byteOf o c in
+        let here : from + (0 + k) ≡ from + k = omega arith in
+        bit-held lentRow o 0 c (part-octets s from (end - from) bytes)
+        ∙ ap (λ (x : ℕ). column x (bitIndex o c % 8))
+        (getD-take (end - from) (drop from s) (0 + k) 0 (omega arith) ∙ getD-drop from s (0 + k) 0 ∙ ap (λ (i : ℕ). getD s i 0) here)
+        ∙ sym (bit-held s o from c bytes)
 
-  -- and so its pixels
-  module _ (at : Place) (width : ℕ) (all : width ≤ 8 * (end - from)) where
-    lent-dots : (test : ℕ → Bool) → rowDot (bitAt lentRow 0) at width test ≡ rowDot (bitAt s from) at width test
-    unfolding rowDot
-    lent-dots test =
-        some-same width (λ c. bitAt lentRow 0 c && blockDot (columnPlace at c) test) (λ c. bitAt s from c && blockDot (columnPlace at c) test)
-        (λ c l. ap (λ (t : Bool). t && blockDot (columnPlace at c) test) (lent-bit c (omega arith)))
+    -- and so its pixels
+    module _ (at : Place) (width : ℕ) (all : (c : ℕ) → c < width → byteOf o c < end - from) where
+      pub lent-past : (len : ℕ) → rowPast (bitAt lentRow o 0) at width len ≡ rowPast (bitAt s o from) at width len
+      lent-past len = same-past (bitAt lentRow o 0) (bitAt s o from) at width (λ c l. lent-bit c (all c l)) len
 
-    pub lent-past : (len : ℕ) → rowPast (bitAt lentRow 0) at width len ≡ rowPast (bitAt s from) at width len
-    unfolding rowPast
-    lent-past len = lent-dots (λ j. leb len j)
-
-    pub lent-in : (i : ℕ) → inRow (bitAt lentRow 0) at width i ≡ inRow (bitAt s from) at width i
-    unfolding inRow
-    lent-in i = lent-dots (λ j. eqb i j)
+      pub lent-in : (i : ℕ) → inRow (bitAt lentRow o 0) at width i ≡ inRow (bitAt s o from) at width i
+      lent-in i = same-in (bitAt lentRow o 0) (bitAt s o from) at width (λ c l. lent-bit c (all c l)) i

@@ -1,7 +1,7 @@
 -- What `some` means: a search finds exactly where there is something to find.
 use Prim.Native.Nat.{ℕ, zero, suc, _+_, _≤_, _<_}
 use mathlib.Core.Path.{_≡_, refl, sym, ap₂, _∙_}
-use mathlib.Core.Bool.{Bool, true, false, _&&_, _||_, false≢true}
+use mathlib.Core.Bool.{Bool, true, false, not, _&&_, _||_, false≢true}
 use mathlib.Core.Logic.{_⊎_, inl, inr, ⊎-elim}
 use native.Mathlib.Nat.{le-of-suc-le-suc, not-suc-le-zero, eq-or-lt-of-le}
 use native.Mathlib.Numerals.{add-one}
@@ -19,6 +19,10 @@ or-second false b e = e
 pub or-cases : (a b : Bool) → a || b ≡ true → (a ≡ true) ⊎ (b ≡ true)
 or-cases true b e = inl refl
 or-cases false b e = inr e
+
+pub or-neither : (a b : Bool) → a || b ≡ false → (a ≡ false) × (b ≡ false)
+or-neither true b e = never (sym e)
+or-neither false b e = (refl, e)
 
 pub and-true : (a b : Bool) → a ≡ true → b ≡ true → a && b ≡ true
 and-true a b e f = rw (e, f)
@@ -64,3 +68,7 @@ some-same (suc n) f g h = ap₂ (λ (x y : Bool). x || y) (some-same n f g (λ k
 pub some-next : (n : ℕ) (f : ℕ → Bool) → some n f ≡ false → f n ≡ false → some (n + 1) f ≡ false
 unfolding some
 some-next n f e h = rw (add-one, e) h
+
+-- a test that no number below n fails, as a search finds, holds of each
+pub below-test : (n : ℕ) (f : ℕ → Bool) → some n (λ k. not (f k)) ≡ false → (k : ℕ) → k < n → f k ≡ true
+below-test n f e k h = split (f k) (λ t. t) (λ t. never (sym (some-false n (λ k. not (f k)) e k h) ∙ rw t refl))

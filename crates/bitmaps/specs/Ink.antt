@@ -5,8 +5,9 @@ use mathlib.Core.List.{List}
 use lib.Dec.{eqb, leb}
 use lib.ListN.{length}
 use Rattle.bitmaps.specs.Place.{Place}
-use Rattle.bitmaps.specs.Rows.{bitAt}
+use Rattle.bitmaps.specs.Units.{bitAt}
 use Rattle.bitmaps.specs.Dots.{blockDot, rowDot, someDot}
+use Rattle.bitmaps.specs.declared.Order.{Order}
 
 -- i is a pixel of the set bit whose block begins there, of one row of bits, of the first n rows
 unfoldable pub inBlock : Place → ℕ → Bool
@@ -26,8 +27,8 @@ unfoldable pub rowsPast : (ℕ → ℕ → Bool) → Place → ℕ → ℕ → �
 rowsPast bit at width n len = someDot bit at width n (λ j. leb len j)
 
 -- the bits of the rows of which row r begins at byte first + r × step
-unfoldable pub rowBits : List ℕ → ℕ → ℕ → ℕ → ℕ → Bool
-rowBits s first step r = bitAt s (first + r * step)
+unfoldable pub rowBits : List ℕ → Order → ℕ → ℕ → ℕ → ℕ → Bool
+rowBits s o first step r = bitAt s o (first + r * step)
 
 -- the first `count` bytes of each of the n rows lie in these bytes
 pub record RowsIn (s : List ℕ) (first step count n : ℕ) : Type 0 where

@@ -2,6 +2,7 @@ pub mod Paint
 pub mod Place
 pub mod Limits
 pub mod Cut
+pub mod Units
 pub mod Rows
 pub mod Dots
 pub mod Ink

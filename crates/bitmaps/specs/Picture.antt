@@ -1,13 +1,14 @@
 -- A glyph's bitmap in the font's bytes: its data, the rows that lie in it, its pixels. From document 01, "Reading the tables", bitmaps,
--- and refusals 12 to 14 and 16.
+-- and refusals 12 to 14 and 16; 13 and 14 as document 02 has them.
 use Prim.Native.Nat.{ℕ, _+_, _*_}
-use mathlib.Core.Bool.{Bool, not, _||_}
+use mathlib.Core.Bool.{Bool, _||_}
 use mathlib.Core.List.{List}
 use lib.ListN.{length, take, drop}
-use lib.Dec.{leb, eqb}
+use lib.Dec.{leb, ltb, eqb}
 use Rattle.reads.specs.Num.{u32At}
 use Rattle.tables.specs.declared.BitmapData.{BitmapData}
-use Rattle.bitmaps.specs.Rows.{rowStride, bitAt, bytesPast}
+use Rattle.bitmaps.specs.Units.{orderOf, unitBytes, bitAt}
+use Rattle.bitmaps.specs.Rows.{rowStride, bytesPast}
 use Rattle.bitmaps.specs.Place.{Place}
 use Rattle.bitmaps.specs.Dots.{someDot}
 
@@ -15,9 +16,9 @@ use Rattle.bitmaps.specs.Dots.{someDot}
 abbrev pub noBitmap : BitmapData → ℕ → Bool
 noBitmap b g = leb (b .count) g
 
--- 13 "scan unit bits not 0, or bit 8 of the format clear"
+-- 13 "for unit code 3 and for a unit wider than the row pad"
 abbrev pub unreadable : BitmapData → Bool
-unreadable b = not (eqb (b .unit) 0) || not (b .top)
+unreadable b = leb 3 (b .unit) || ltb (b .pad) (unitBytes (b .unit))
 
 -- the bitmap data
 abbrev pub bitsOf : List ℕ → BitmapData → List ℕ
@@ -33,11 +34,11 @@ rowOf s b g width r = offsetOf s b g + r * rowStride width (b .pad)
 
 -- 14: the first n rows of glyph g are not all in the data
 unfoldable pub rowsShort : List ℕ → BitmapData → ℕ → ℕ → ℕ → Bool
-rowsShort s b g width n = bytesPast (length (bitsOf s b)) (rowOf s b g width) width n
+rowsShort s b g width n = bytesPast (length (bitsOf s b)) (orderOf b) (rowOf s b g width) width n
 
 -- the bit of glyph g at row r, column c
 unfoldable pub glyphBit : List ℕ → BitmapData → ℕ → ℕ → ℕ → ℕ → Bool
-glyphBit s b g width r c = bitAt (bitsOf s b) (rowOf s b g width r) c
+glyphBit s b g width r c = bitAt (bitsOf s b) (orderOf b) (rowOf s b g width r) c
 
 -- pixel i is one of glyph g, drawn there; its first `columns` columns and n rows count
 abbrev pub inPicture : List ℕ → BitmapData → ℕ → ℕ → ℕ → Place → ℕ → ℕ → Bool

@@ -1,11 +1,12 @@
--- The rows of a bitmap in its data: their bytes and bits. From document 01: "Row stride is ceil(width / 8) raised to the row pad. A
--- set bit (top bit leftmost) at row r, column c"; refusal 14 "a needed bitmap byte lies beyond the bitmap data".
-use Prim.Native.Nat.{ℕ, _+_, _-_, _*_, _/_, _%_, _^_}
+-- The rows of a bitmap in its data: how far apart they begin, and which of their bytes are needed. From document 01: "Row stride is
+-- ceil(width / 8) raised to the row pad"; refusal 14 "a needed bitmap byte lies beyond the bitmap data". From document 02: "14 concerns
+-- the byte that really holds the column".
+use Prim.Native.Nat.{ℕ, zero, suc, _+_, _-_, _*_, _/_, _%_, _^_, max}
 use mathlib.Core.Bool.{Bool}
-use mathlib.Core.List.{List}
-use lib.ListN.{getD}
 use lib.Dec.{leb, eqb}
 use Rattle.bitmaps.specs.Paint.{some}
+use Rattle.bitmaps.specs.Units.{byteOf}
+use Rattle.bitmaps.specs.declared.Order.{Order}
 
 -- "ceil(width / 8)"
 abbrev pub rowBytes : ℕ → ℕ
@@ -15,22 +16,15 @@ rowBytes width = (width + 7) / 8
 abbrev pub rowStride : ℕ → ℕ → ℕ
 rowStride width pad = (rowBytes width + (pad - 1)) / pad * pad
 
--- the byte with columns 8j to 8j + 7 of the row that begins at byte `row` of the data
-abbrev pub rowByte : List ℕ → ℕ → ℕ → ℕ
-rowByte bits row j = getD bits (row + j) 0
-
 -- the bit at column k of a byte: "top bit leftmost"
 unfoldable pub column : ℕ → ℕ → Bool
 column byte k = eqb (byte / 2 ^ (7 - k) % 2) 1
 
--- which byte of a row holds column c
-abbrev pub byteOf : ℕ → ℕ
-byteOf c = c / 8
+-- how many bytes from a row's start on its first `width` columns need: up to the last byte that holds one of them
+unfoldable pub rowEnd : Order → ℕ → ℕ
+rowEnd o zero = 0
+rowEnd o (suc c) = max (rowEnd o c) (byteOf o c + 1)
 
--- the bit at column c of that row
-unfoldable pub bitAt : List ℕ → ℕ → ℕ → Bool
-bitAt bits row c = column (rowByte bits row (byteOf c)) (c % 8)
-
--- 14, in data of `size` bytes: the byte of some column of the first n rows, of which row r begins at `row r`
-unfoldable pub bytesPast : ℕ → (ℕ → ℕ) → ℕ → ℕ → Bool
-bytesPast size row width n = some n (λ r. some width (λ c. leb size (row r + byteOf c)))
+-- 14, in data of `size` bytes: the byte that holds some column of the first n rows, of which row r begins at `row r`, lies beyond it
+unfoldable pub bytesPast : ℕ → Order → (ℕ → ℕ) → ℕ → ℕ → Bool
+bytesPast size o row width n = some n (λ r. some width (λ c. leb size (row r + byteOf o c)))

@@ -12,7 +12,7 @@ use Rattle.bitmaps.specs.Rows.{rowBytes}
 use Rattle.bitmaps.specs.Picture.{unreadable, rowsShort, inPicture, pixelPast}
 use Rattle.bitmaps.specs.declared.Unpacked.{Unpacked}
 
--- the columns of "every whole row byte"
+-- the columns of "every whole row byte": eight for each byte that the width needs, wherever it stands
 abbrev pub wholeColumns : ℕ → ℕ
 wholeColumns width = 8 * rowBytes width
 

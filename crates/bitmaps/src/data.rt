@@ -1,12 +1,18 @@
 // Where a glyph's rows stand in the bitmap data, and which of their bytes there are. Widths and numbers
 // of rows are 16 bits wide, so that no sum of theirs leaves a usize. Nothing here tests the record:
 // bytes past the end read as 0.
+use crate::units::order_of;
+use crate::units::read_byte;
+use crate::units::row_bytes;
+use crate::units::row_end;
+use crate::units::unit_bytes;
 use reads::GlyphIndex;
 use reads::u32_at;
 use tables::BitmapData;
 ghost use mathlib.Core.Path.{_≡_};
 ghost use lib.ListN.{length};
-ghost use Rattle.bitmaps.specs.Rows.{rowBytes, rowStride, rowByte, column};
+ghost use Rattle.bitmaps.specs.Units.{orderOf, rowByte};
+ghost use Rattle.bitmaps.specs.Rows.{rowStride};
 ghost use Rattle.bitmaps.specs.Picture.{noBitmap, unreadable, bitsOf, offsetOf, rowsShort};
 
 // Whether 12 refuses this glyph: the table has no bitmap for it.
@@ -16,12 +22,16 @@ pub fn no_bitmap(b: BitmapData, g: GlyphIndex) -> bool
     b.count <= g.0 as u32
 }
 
-// Whether 13 refuses every picture of this table: the scan unit code is not 0, or a byte's top bit is
-// not its leftmost.
+// Whether 13 refuses every picture of this table: the scan unit code is none of 0, 1, 2, or a unit is wider
+// than the row pad.
 pub fn unreadable(b: BitmapData) -> bool
     ensures { λ r. ⌜ r ≡ unreadable b ⌝ }
 {
-    (b.unit != 0) | !b.top
+    // Nearly all tables have units of one byte.
+    if b.unit == 0 {
+        return b.pad == 0;
+    }
+    (2 < b.unit) | (b.pad < unit_bytes(b.unit))
 }
 
 // How many bytes the bitmap data has in these bytes.
@@ -37,13 +47,6 @@ fn data_size(s: &[u8], b: BitmapData) -> usize
         return left;
     }
     size
-}
-
-// How many bytes of a row hold columns.
-pub fn row_bytes(width: u16) -> u32
-    ensures { λ r. ⌜ r ≡ rowBytes width ⌝ }
-{
-    (width as u32 + 7) / 8
 }
 
 // How many bytes lie between the starts of two rows. The usual paddings are told apart, since dividing by a
@@ -72,30 +75,10 @@ pub fn offset_of(s: &[u8], b: BitmapData, g: GlyphIndex) -> u32
     u32_at(s, b.offsets, 4 * (g.0 as usize), b.big)
 }
 
-// The byte with columns 8j to 8j + 7 of a row of which these are the bytes; 0 past their end. Whatever looks at
-// bits reads them here.
-pub fn shown_byte(row: &[u8], j: usize) -> u8
-    ensures { λ r. ⌜ r ≡ rowByte (now (row .entry)) 0 j ⌝ }
-{
-    if row.len() <= j {
-        return 0;
-    }
-    row[j]
-}
-
-// The bit at column k of a byte, the top bit being column 0. Past column 7 it is the lowest bit.
-pub fn bit_of(byte: u8, k: usize) -> bool
-    ensures { λ r. ⌜ r ≡ column byte k ⌝ }
-{
-    if 7 < k {
-        return byte % 2 == 1;
-    }
-    (byte >> (7 - k)) % 2 == 1
-}
-
-// The same byte of the row that begins at byte `row` of the bitmap data; 0 past the data's end.
+// The byte with columns 8j to 8j + 7 of the row that begins at byte `row` of the bitmap data, top bit
+// leftmost; 0 where it lies past the data's end.
 pub fn row_byte(s: &[u8], b: BitmapData, row: usize, j: usize) -> u8
-    ensures { λ r. ⌜ r ≡ rowByte (bitsOf (now (s .entry)) b) row j ⌝ }
+    ensures { λ r. ⌜ r ≡ rowByte (bitsOf (now (s .entry)) b) (orderOf b) row j ⌝ }
 {
     let size = data_size(s, b);
     if size <= row {
@@ -103,11 +86,11 @@ pub fn row_byte(s: &[u8], b: BitmapData, row: usize, j: usize) -> u8
     }
     let from = b.bits + row;
     let end = b.bits + size;
-    shown_byte(&s[from..end], j)
+    read_byte(&s[from..end], order_of(b), j)
 }
 
-// Whether 14 refuses the first n rows of a glyph of this width. One comparison: the byte of the last
-// row's last column lies behind all the others.
+// Whether 14 refuses the first n rows of a glyph of this width. One comparison: the farthest byte that the last
+// row needs lies behind all the others.
 pub fn rows_short(s: &[u8], b: BitmapData, g: GlyphIndex, width: u16, n: u16) -> bool
     ensures { λ r. ⌜ r ≡ rowsShort (now (s .entry)) b (g .0) width n ⌝ }
 {
@@ -120,6 +103,6 @@ pub fn rows_short(s: &[u8], b: BitmapData, g: GlyphIndex, width: u16, n: u16) ->
     let first = offset_of(s, b, g) as usize;
     let stride = row_stride(width, b.pad) as usize;
     let rows = (n as usize - 1) * stride;
-    let column = (width as usize - 1) / 8;
-    data_size(s, b) <= first + rows + column
+    let end = row_end(order_of(b), width) as usize;
+    data_size(s, b) < first + rows + end
 }

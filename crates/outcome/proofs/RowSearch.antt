@@ -9,7 +9,8 @@ use lib.Dec.{leb, ltb}
 use Rattle.tables.specs.declared.BitmapData.{BitmapData}
 use Rattle.bitmaps.specs.Place.{Place, placeAt, rowPlace, columnPlace}
 use Rattle.bitmaps.specs.Paint.{some}
-use Rattle.bitmaps.specs.Rows.{rowStride, bitAt}
+use Rattle.bitmaps.specs.Units.{orderOf, bitAt}
+use Rattle.bitmaps.specs.Rows.{rowStride}
 use Rattle.bitmaps.specs.Dots.{blockDot, rowDot, someDot}
 use Rattle.bitmaps.specs.Picture.{bitsOf, offsetOf, glyphBit, pixelPast}
 use Rattle.bitmaps.proofs.Searching.{some-true, some-next}
@@ -51,7 +52,7 @@ module _ (bit : ℕ → Bool) (at : Place) (columns : ℕ) (test : ℕ → Bool)
 -- no set bit of the first r rows, of which row k begins at byte first + k * step of the data, has a pixel past the room
 pub record Clear (s : List ℕ) (b : BitmapData) (columns n room stride scale first step r : ℕ) : Type 0 where
   pub inside : r ≤ n
-  pub none : someDot (λ k. bitAt (bitsOf s b) (first + k * step)) (placeAt 0 stride scale) columns r (λ j. leb room j) ≡ false
+  pub none : someDot (λ k. bitAt (bitsOf s b) (orderOf b) (first + k * step)) (placeAt 0 stride scale) columns r (λ j. leb room j) ≡ false
 
 module _ (s : List ℕ) (b : BitmapData) (columns n room stride scale first step : ℕ) where
   pub clear-first : Clear s b columns n room stride scale first step 0
@@ -60,7 +61,7 @@ module _ (s : List ℕ) (b : BitmapData) (columns n room stride scale first step
 
   module _ (r : ℕ) (clear : Clear s b columns n room stride scale first step r) where
     abbrev bits : ℕ → ℕ → Bool
-    bits k = bitAt (bitsOf s b) (first + k * step)
+    bits k = bitAt (bitsOf s b) (orderOf b) (first + k * step)
 
     abbrev row : ℕ → Bool
     row k = rowDot (bits k) (rowPlace (placeAt 0 stride scale) k) columns (λ j. leb room j)
@@ -69,7 +70,7 @@ module _ (s : List ℕ) (b : BitmapData) (columns n room stride scale first step
     row-is past is = rw (zero-add (r * stride * scale)) (sym is)
 
     pub clear-next : (past : Bool) → r < n → past ≡ false
-        → past ≡ rowDot (bitAt (bitsOf s b) (first + r * step)) (placeAt (r * stride * scale) stride scale) columns (λ j. leb room j)
+        → past ≡ rowDot (bitAt (bitsOf s b) (orderOf b) (first + r * step)) (placeAt (r * stride * scale) stride scale) columns (λ j. leb room j)
         → Clear s b columns n room stride scale first step (r + 1)
     unfolding someDot
     clear-next past h e is = record { inside = omega arith; none = some-next r row (clear .none) (row-is past is ∙ e) }
@@ -81,7 +82,7 @@ module _ (s : List ℕ) (b : BitmapData) (columns n room stride scale first step
       of-glyph t e = sym (sym (rw (first-is, step-is) refl) ∙ e)
 
       pub row-past : (past : Bool) → r < n → past ≡ true
-          → past ≡ rowDot (bitAt (bitsOf s b) (first + r * step)) (placeAt (r * stride * scale) stride scale) columns (λ j. leb room j)
+          → past ≡ rowDot (bitAt (bitsOf s b) (orderOf b) (first + r * step)) (placeAt (r * stride * scale) stride scale) columns (λ j. leb room j)
           → true ≡ pixelPast s b g width columns (placeAt 0 stride scale) n room
       unfolding someDot
       row-past past h e is = of-glyph true (some-true n row r h (row-is past is ∙ e))

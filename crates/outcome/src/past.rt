@@ -10,13 +10,13 @@ ghost use mathlib.Core.Path.{_≡_};
 ghost use Prim.Native.Nat.{_-_, _≤_};
 ghost use lib.Dec.{leb};
 ghost use Rattle.bitmaps.specs.Place.{placeAt};
-ghost use Rattle.bitmaps.specs.Rows.{bitAt};
+ghost use Rattle.bitmaps.specs.Units.{orderOf, bitAt};
 ghost use Rattle.bitmaps.specs.Dots.{rowDot};
 ghost use Rattle.bitmaps.specs.Picture.{bitsOf, pixelPast};
 
 // The bit at column c of the row that begins at byte `row` of the bitmap data.
 fn bit_at(s: &[u8], b: BitmapData, row: usize, c: usize) -> bool
-    ensures { λ r. ⌜ r ≡ bitAt (bitsOf (now (s .entry)) b) row c ⌝ }
+    ensures { λ r. ⌜ r ≡ bitAt (bitsOf (now (s .entry)) b) (orderOf b) row c ⌝ }
 {
     bit_of(row_byte(s, b, row, c / 8), c % 8)
 }
@@ -34,7 +34,7 @@ fn row_past(
     scale: u8,
 ) -> bool
     requires { ⌜ (1 ≤ scale) × (at ≤ 1152921504606846976) ⌝ }
-    ensures { λ r. ⌜ r ≡ rowDot (bitAt (bitsOf (now (s .entry)) b) row) (placeAt at stride scale) columns (λ j. leb room j) ⌝ }
+    ensures { λ r. ⌜ r ≡ rowDot (bitAt (bitsOf (now (s .entry)) b) (orderOf b) row) (placeAt at stride scale) columns (λ j. leb room j) ⌝ }
 {
     let side = scale as usize;
     let down = (side - 1) * stride as usize;

@@ -11,7 +11,7 @@ use lib.IntN.{ℤ, pos, negsuc, subℕ}
 abbrev pub byteAt : List ℕ → ℕ → ℕ
 byteAt s at = getD s at 0
 
--- which of `w` bytes is the k-th most significant, from 0: with the most significant byte first the k-th, else the k-th from the end
+-- which of `w` bytes, or bits, is the k-th most significant, from 0: with the most significant first the k-th, else the k-th from the end
 abbrev pub digitIndex : Bool → ℕ → ℕ → ℕ
 digitIndex true w k = k
 digitIndex false w k = w - 1 - k

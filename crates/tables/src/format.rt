@@ -24,7 +24,7 @@ pub(crate) fn compressed_bit(format: u32) -> bool
     format / 256 % 2 == 1
 }
 
-// Bit 8, of bitmaps: a byte's top bit is its leftmost.
+// Bit 8, of bitmaps: a scan unit's top bit is its leftmost.
 pub(crate) fn top_bit(format: u32) -> bool
     ensures { λ r. ⌜ r ≡ topBit format ⌝ }
 {

@@ -80,8 +80,8 @@ pub struct MetricsData {
 }
 
 // Table 8. `count` offsets from `offsets` on, into the bitmap data of `size` bytes from `bits` on.
-// A row is padded to a multiple of `pad` bytes. `unit` is the format's scan unit code, `top` whether
-// a byte's top bit is its leftmost.
+// A row is padded to a multiple of `pad` bytes. `unit` is the format's scan unit code, `big` also the byte
+// order of a scan unit, `top` whether its top bit is its leftmost.
 #[repr(C)]
 pub struct BitmapData {
     pub big: bool,

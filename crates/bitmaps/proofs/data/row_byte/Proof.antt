@@ -11,8 +11,9 @@ row-byte-spec =
     (λ c. search row-past-data)  -- returns
     (λ c. search from-fits)  -- add-from
     (λ c. search end-fits)  -- add-end
-    (λ c. search needs)  -- sub-shown-byte
-    (λ c. search needs)  -- part-shown-byte-start
-    (λ c. search data-in-file)  -- part-shown-byte-end
-    (λ c κs. search needs)  -- shown-byte-requires
+    (λ c. search needs)  -- sub-read-byte
+    (λ c. search needs)  -- part-read-byte-start
+    (λ c. search data-in-file)  -- part-read-byte-end
+    (λ c κs. search needs)  -- order-of-requires
+    (λ c κs. search needs)  -- read-byte-requires
     (λ c. search from-row))  -- returns-2

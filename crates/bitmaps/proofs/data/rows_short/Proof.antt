@@ -15,7 +15,9 @@ rows-short-spec =
     (λ c. search needs)  -- cast-stride
     (λ c. search needs)  -- sub-rows
     (λ c. search rows-before-fit)  -- mul-rows
-    (λ c. search needs)  -- sub-column
+    (λ c κs. search needs)  -- order-of-requires
+    (λ c κs. search needs)  -- row-end-requires
+    (λ c. search needs)  -- cast-end
     (λ c κs. search needs)  -- data-size-requires
     (λ c. search last-row-fits)  -- add-result
     (λ c. search last-byte-fits)  -- add-result-2

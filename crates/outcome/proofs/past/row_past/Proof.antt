@@ -3,7 +3,7 @@ use Prim.Native.Nat.{_-_, _*_, _≤_}
 use native.Mathlib.Omega.{arith}
 use lib.Dec.{leb}
 use Rattle.bitmaps.specs.Place.{placeAt}
-use Rattle.bitmaps.specs.Rows.{bitAt}
+use Rattle.bitmaps.specs.Units.{orderOf, bitAt}
 use Rattle.bitmaps.specs.Picture.{bitsOf}
 use Rattle.outcome.proofs.Sizes.{within}
 use Rattle.outcome.proofs.Corner.{row-fits}
@@ -13,7 +13,7 @@ use Rattle.outcome.proofs.past.row_past.Statement.{statement}
 use Rattle.outcome.proofs.past.row_past.Tie as tie
 
 abbrev Inv-loop : tie.InvT-loop
-Inv-loop s b row at columns room stride scale side down count c₀ c = RowClear (bitAt (bitsOf s b) row) (placeAt at stride scale) columns (λ j. leb room j) c
+Inv-loop s b row at columns room stride scale side down count c₀ c = RowClear (bitAt (bitsOf s b) (orderOf b) row) (placeAt at stride scale) columns (λ j. leb room j) c
 
 abbrev μ-loop : tie.MeasureT-loop
 μ-loop s b row at columns room stride scale side down count c₀ c = columns - c

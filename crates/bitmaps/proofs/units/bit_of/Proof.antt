@@ -4,8 +4,8 @@ use native.Mathlib.Omega.{arith}
 use lib.Dec.{eqb}
 use Rattle.bitmaps.specs.Rows.{column}
 use borrow.Author.Needs.{needs}
-use Rattle.bitmaps.proofs.data.bit_of.Statement.{statement}
-use Rattle.bitmaps.proofs.data.bit_of.Tie as tie
+use Rattle.bitmaps.proofs.units.bit_of.Statement.{statement}
+use Rattle.bitmaps.proofs.units.bit_of.Tie as tie
 
 lowest-bit : (byte k : ℕ) → 7 < k → eqb (byte % 2) 1 ≡ column byte k
 unfolding column
