@@ -20,7 +20,7 @@ fn dots(buf: &mut [u32], at: usize, n: usize, colour: u32)
 }
 
 // Colours `scale` lines of `scale` pixels, a stride apart.
-fn lines(buf: &mut [u32], at: usize, stride: u16, scale: u8, colour: u32)
+pub(crate) fn lines(buf: &mut [u32], at: usize, stride: u16, scale: u8, colour: u32)
     requires { ⌜ at + (scale - 1) * stride + scale ≤ length (now buf) ⌝ }
     ensures { λ _. ⌜ now (buf .exit) ≡ painted (inBlock (placeAt at stride scale)) colour (now (buf .entry)) ⌝ }
 {

@@ -3,6 +3,7 @@
 mod block;
 mod columns;
 mod draw;
+mod other;
 mod rows;
 
 pub use draw::draw_bitmap;

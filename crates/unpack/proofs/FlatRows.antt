@@ -11,28 +11,35 @@ use mir.Syntax.{w64}
 use mir.Val.{Fits}
 use Rattle.bitmaps.specs.Place.{placeAt}
 use Rattle.bitmaps.specs.Paint.{some, painted}
-use Rattle.bitmaps.specs.Rows.{bitAt}
+use Rattle.bitmaps.specs.Units.{bitAt}
+use Rattle.bitmaps.specs.Rows.{rowEnd}
+use Rattle.bitmaps.specs.Unpack.{wholeColumns}
 use Rattle.bitmaps.specs.Dots.{blockDot, rowDot}
 use Rattle.bitmaps.specs.Ink.{inRow, rowPast, rowsPast, rowBits, RowsIn}
+use Rattle.bitmaps.specs.declared.Order.{Order}
 use Rattle.bitmaps.proofs.Searching.{some-same}
 use Rattle.bitmaps.proofs.Painting.{painted-same}
 use Rattle.bitmaps.proofs.PictureRows.{Rowed, row-room, row-more}
+use Rattle.bitmaps.proofs.UnitBits.{Octets}
+use Rattle.bitmaps.proofs.RowEnds.{end-above-whole}
 use Rattle.bitmaps.proofs.RowBits.{lentRow, lent-bytes, lent-bit}
 use Rattle.outcome.proofs.Sizes.{within}
 use Rattle.unpack.specs.Stored.{inBits, bitsPast}
 
 -- row r of n, of `count` bytes
-module _ (s : List ℕ) (first step count n r : ℕ) (rows : RowsIn s first step count n) (h : r < n) where
+module _ (s : List ℕ) (first step size n r : ℕ) (rows : RowsIn s first step size n) (h : r < n) (count : ℕ) (count-is : count ≡ size) where
   abbrev lent : List ℕ
   lent = lentRow s (first + r * step) (first + r * step + count)
 
-  lent-count : length lent ≡ count
-  lent-count = omega (arith, lent-bytes s (first + r * step) (first + r * step + count) (rows .there r h))
+  -- it lies in the file
+  pub row-there : first + r * step + count ≤ length s
+  row-there = rw count-is (rows .there r h)
 
-  pub lent-small : count < 2 ^ 32 → length lent ≤ 4294967295
-  lent-small k = omega (arith, lent-count)
+  pub lent-count : length lent ≡ size
+  lent-count = omega (arith, lent-bytes s (first + r * step) (first + r * step + count) row-there)
 
-  module _ (stride : ℕ) where
+  -- its bytes are those that its columns need
+  module _ (o : Order) (width stride : ℕ) (needed : rowEnd o width ≡ size) (bytes : Octets s) where
     module _ (test : ℕ → Bool) where
       flat-block : (c : ℕ) → blockDot (placeAt (r * stride * 1 + c * 1) stride 1) test ≡ test (r * stride + c)
       unfolding blockDot some
@@ -40,26 +47,26 @@ module _ (s : List ℕ) (first step count n r : ℕ) (rows : RowsIn s first step
           let e : r * stride * 1 + c * 1 + 0 * stride + 0 ≡ r * stride + c = omega (arith, zero-mul stride, mul-one (r * stride), mul-one c) in
           ap test e
 
-      flat-row : some (8 * length lent) (λ c. bitAt lent 0 c && test (r * stride + c)) ≡ rowDot (rowBits s first step r) (placeAt (r * stride * 1) stride 1) (8 * count) test
+      flat-row : some (wholeColumns width) (λ c. bitAt lent o 0 c && test (r * stride + c))
+          ≡ rowDot (rowBits s o first step r) (placeAt (r * stride * 1) stride 1) (wholeColumns width) test
       unfolding rowDot rowBits
       flat-row =
-          rw lent-count
-          (some-same (8 * count) (λ c. bitAt lent 0 c && test (r * stride + c))
-          (λ c. bitAt s (first + r * step) c && blockDot (placeAt (r * stride * 1 + c * 1) stride 1) test)
-          (λ c l. rw (lent-bit s (first + r * step) (first + r * step + count) c (omega arith), flat-block c)))
+          some-same (wholeColumns width) (λ c. bitAt lent o 0 c && test (r * stride + c))
+          (λ c. bitAt s o (first + r * step) c && blockDot (placeAt (r * stride * 1 + c * 1) stride 1) test)
+          (λ c l. rw (lent-bit s (first + r * step) (first + r * step + count) o bytes c (omega (arith, end-above-whole o width c l)), flat-block c))
 
-    module _ (old buf : List ℕ) (so-far : Rowed (rowBits s first step) stride 1 (8 * count) n 1 old buf r) where
-      pub lent-room : rowsPast (rowBits s first step) (placeAt 0 stride 1) (8 * count) n (length old) ≡ false
-          → bitsPast (bitAt lent 0) (r * stride) (8 * length lent) (length buf) ≡ false
+    module _ (old buf : List ℕ) (so-far : Rowed (rowBits s o first step) stride 1 (wholeColumns width) n 1 old buf r) where
+      pub lent-room : rowsPast (rowBits s o first step) (placeAt 0 stride 1) (wholeColumns width) n (length old) ≡ false
+          → bitsPast (bitAt lent o 0) (r * stride) (wholeColumns width) (length buf) ≡ false
       unfolding bitsPast rowPast
-      lent-room e = flat-row (λ j. leb (length buf) j) ∙ row-room (rowBits s first step) stride 1 (8 * count) n 1 old buf r so-far h e
+      lent-room e = flat-row (λ j. leb (length buf) j) ∙ row-room (rowBits s o first step) stride 1 (wholeColumns width) n 1 old buf r so-far h e
 
-      pub lent-more : (new : List ℕ) → new ≡ painted (inBits (bitAt lent 0) (r * stride) (8 * length lent)) 1 buf
-          → Rowed (rowBits s first step) stride 1 (8 * count) n 1 old new (r + 1)
+      pub lent-more : (new : List ℕ) → new ≡ painted (inBits (bitAt lent o 0) (r * stride) (wholeColumns width)) 1 buf
+          → Rowed (rowBits s o first step) stride 1 (wholeColumns width) n 1 old new (r + 1)
       unfolding inBits inRow
       lent-more new e =
-          row-more (rowBits s first step) stride 1 (8 * count) n 1 old buf r so-far h new
-          (e ∙ painted-same (inBits (bitAt lent 0) (r * stride) (8 * length lent)) (inRow (rowBits s first step r) (placeAt (r * stride * 1) stride 1) (8 * count)) 1 buf
+          row-more (rowBits s o first step) stride 1 (wholeColumns width) n 1 old buf r so-far h new
+          (e ∙ painted-same (inBits (bitAt lent o 0) (r * stride) (wholeColumns width)) (inRow (rowBits s o first step r) (placeAt (r * stride * 1) stride 1) (wholeColumns width)) 1 buf
           (λ i l. flat-row (λ j. eqb i j)))
 
 -- a row's first place lies near
