@@ -1,13 +1,13 @@
 -- How much room a frame can need: the rows of a glyph that lie in the bitmap data, and a name, are no more bytes than the font has.
 use mathlib.Core.Path.{_≡_, refl, sym, subst, _∙_}
-use mathlib.Core.Bool.{true, false}
+use mathlib.Core.Bool.{true, false, Bool·beq}
 use mathlib.Core.List.{List}
-use Prim.Native.Nat.{ℕ, zero, suc, _+_, _-_, _*_, _/_, _≤_, _<_}
+use Prim.Native.Nat.{ℕ, zero, suc, _+_, _-_, _*_, _≤_, _<_}
 use native.Mathlib.Nat.{zero-mul, mul-zero, mod-lt, div-add-mod', mul-le-mul}
 use native.Mathlib.Omega.{arith}
 use lib.ListN.{length, drop, length-take, length-drop}
 use lib.Dec.{eqb}
-use borrow.Author.Tests.{leb-false, eqb-true, eqb-false}
+use borrow.Author.Tests.{ltb-false, eqb-true, eqb-false}
 use Rattle.reads.specs.declared.GlyphIndex.{GlyphIndex}
 use Rattle.reads.proofs.Tests.{split}
 use Rattle.tables.specs.Fits.{recordFits}
@@ -18,10 +18,13 @@ use Rattle.lookup.specs.Lookup.{glyphOf}
 use Rattle.lookup.specs.declared.Found.{Found}
 use Rattle.names.specs.Names.{nameOf, nameBytes}
 use Rattle.names.specs.declared.Named.{Named}
-use Rattle.bitmaps.specs.Rows.{rowBytes, rowStride}
+use Rattle.bitmaps.specs.Units.{orderOf}
+use Rattle.bitmaps.specs.Rows.{rowBytes, rowStride, rowEnd}
 use Rattle.bitmaps.specs.Picture.{bitsOf, offsetOf, rowsShort}
+use Rattle.bitmaps.specs.declared.Order.{Order}
 use Rattle.bitmaps.proofs.DataBytes.{data-length}
 use Rattle.bitmaps.proofs.LastByte.{last-byte}
+use Rattle.bitmaps.proofs.RowEnds.{four-bytes, held-alone, held-straight, held-mirrored, end-straight, end-pairs, end-fours}
 use Rattle.load.proofs.Serves.{loaded-serves}
 use Rattle.metrics.specs.Measure.{glyphMetrics}
 use Rattle.place.specs.Bounds.{boundsOf}
@@ -42,6 +45,15 @@ stride-covers width pad h =
     let whole = rowBytes width + (pad - 1) in
     omega (arith, mod-lt whole {m = pad} h, div-add-mod' whole pad)
 
+-- its columns need no fewer bytes than a row has, in whatever order their bytes stand
+row-reaches : (o : Order) (width : ℕ) → rowBytes width ≤ rowEnd o width
+row-reaches o width =
+    split (Bool·beq (o .big) (o .top)) (λ t. omega (arith, end-straight o (λ j. held-straight o j t) width))
+    (λ t. split (eqb (o .unit) 0) (λ u. omega (arith, end-straight o (λ j. held-alone o j (eqb-true (o .unit) 0 u)) width))
+    (λ u. split (eqb (o .unit) 1)
+    (λ v. omega (arith, end-pairs o (λ j. held-mirrored o j 2 (rw (u, v) refl) t) width))
+    (λ v. omega (arith, end-fours o (λ j. held-mirrored o j 4 (four-bytes (o .unit) (eqb-false (o .unit) 0 u) (eqb-false (o .unit) 1 v)) t) width))))
+
 -- n rows of w bytes that begin a stride of at least w apart end w bytes after the last one's start
 rows-end : (n w stride : ℕ) → 0 < n → w ≤ stride → n * w ≤ (n - 1) * stride + w
 rows-end zero w stride h c = absurd (omega arith)
@@ -60,10 +72,10 @@ module _ (s : List ℕ) (b : BitmapData) (i : GlyphInfo) (pad : 0 < b .pad) (fit
       let stride = rowStride (i .width) (b .pad) in
       let first = offsetOf s b (i .glyph .0) in
       let size = length (bitsOf s b) in
-      let last = first + (i .height - 1) * stride + (i .width - 1) / 8 in
-      let inside-data : last < size = leb-false size last (sym (last-byte s b (i .glyph .0) (i .width) (i .height) w h) ∙ fit) in
+      let last = first + (i .height - 1) * stride + rowEnd (orderOf b) (i .width) in
+      let inside-data : last ≤ size = ltb-false size last (sym (last-byte s b (i .glyph .0) (i .width) (i .height) w h) ∙ fit) in
       let end = rows-end (i .height) (rowBytes (i .width)) stride h (stride-covers (i .width) (b .pad) pad) in
-      omega (arith, end, data-length s b)
+      omega (arith, end, row-reaches (orderOf b) (i .width), data-length s b)
 
   -- where 14 does not occur, a glyph has no more row bytes than the font has bytes
   pub rows-within : length (glyphRows s b i) ≤ length s

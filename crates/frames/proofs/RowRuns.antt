@@ -9,34 +9,36 @@ use lib.ListN.{length, length-append}
 use mir.Syntax.{w64}
 use mir.Val.{Fits}
 use Rattle.tables.specs.declared.BitmapData.{BitmapData}
-use Rattle.bitmaps.specs.Rows.{rowBytes, rowByte}
+use Rattle.bitmaps.specs.Units.{orderOf, rowByte}
+use Rattle.bitmaps.specs.Rows.{rowBytes}
 use Rattle.bitmaps.specs.Picture.{bitsOf, rowOf}
+use Rattle.bitmaps.specs.declared.Order.{Order}
 use Rattle.place.specs.declared.GlyphInfo.{GlyphInfo}
 use Rattle.frames.specs.Hex.{hexAll}
 use Rattle.frames.specs.Frames.{rowFrom, rowsFrom}
 use Rattle.frames.proofs.HexRuns.{hex-append}
 
-module _ (bits : List ℕ) (row : ℕ) where
-  pub length-row : (j n : ℕ) → length (rowFrom bits row j n) ≡ n
+module _ (bits : List ℕ) (o : Order) (row : ℕ) where
+  pub length-row : (j n : ℕ) → length (rowFrom bits o row j n) ≡ n
   unfolding rowFrom
   length-row j zero = refl
   length-row j (suc n) = ap suc (length-row (j + 1) n)
 
-  row-more : (j n : ℕ) → rowFrom bits row j (suc n) ≡ rowFrom bits row j n ++ (rowByte bits row (j + n) ∷ [])
+  row-more : (j n : ℕ) → rowFrom bits o row j (suc n) ≡ rowFrom bits o row j n ++ (rowByte bits o row (j + n) ∷ [])
   unfolding rowFrom
   row-more j zero = rw (add-zero j) refl
   row-more j (suc n) =
       let e : j + 1 + n ≡ j + suc n = omega arith in
-      ap (λ (l : List ℕ). rowByte bits row j ∷ l) (rw (← e) (row-more (j + 1) n))
+      ap (λ (l : List ℕ). rowByte bits o row j ∷ l) (rw (← e) (row-more (j + 1) n))
 
   -- one byte more
-  pub row-next : (n : ℕ) → rowFrom bits row 0 (n + 1) ≡ rowFrom bits row 0 n ++ (rowByte bits row n ∷ [])
+  pub row-next : (n : ℕ) → rowFrom bits o row 0 (n + 1) ≡ rowFrom bits o row 0 n ++ (rowByte bits o row n ∷ [])
   row-next n = rw add-one (row-more 0 n ∙ rw (zero-add n) refl)
 
 module _ (s : List ℕ) (b : BitmapData) (i : GlyphInfo) where
   -- the bytes of row r that hold columns
   abbrev pub rowAt : ℕ → List ℕ
-  rowAt r = rowFrom (bitsOf s b) (rowOf s b (i .glyph .0) (i .width) r) 0 (rowBytes (i .width))
+  rowAt r = rowFrom (bitsOf s b) (orderOf b) (rowOf s b (i .glyph .0) (i .width) r) 0 (rowBytes (i .width))
 
   pub length-rows : (r n : ℕ) → length (rowsFrom s b i r n) ≡ n * rowBytes (i .width)
   unfolding rowsFrom
@@ -44,7 +46,7 @@ module _ (s : List ℕ) (b : BitmapData) (i : GlyphInfo) where
   length-rows r (suc n) =
       length-append (rowAt r) (rowsFrom s b i (r + 1) n)
       ∙ rw (
-        length-row (bitsOf s b) (rowOf s b (i .glyph .0) (i .width) r) 0 (rowBytes (i .width)),
+        length-row (bitsOf s b) (orderOf b) (rowOf s b (i .glyph .0) (i .width) r) 0 (rowBytes (i .width)),
         length-rows (r + 1) n,
         suc-mul n (rowBytes (i .width)),
       )

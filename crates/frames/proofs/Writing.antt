@@ -9,8 +9,10 @@ use lib.Seq.{take-all, length-take-le}
 use mir.Syntax.{w64}
 use mir.Val.{Fits}
 use Rattle.tables.specs.declared.BitmapData.{BitmapData}
-use Rattle.bitmaps.specs.Rows.{rowBytes, rowStride, rowByte}
+use Rattle.bitmaps.specs.Units.{orderOf, rowByte}
+use Rattle.bitmaps.specs.Rows.{rowBytes, rowStride}
 use Rattle.bitmaps.specs.Picture.{bitsOf, offsetOf}
+use Rattle.bitmaps.specs.declared.Order.{Order}
 use Rattle.place.specs.declared.GlyphInfo.{GlyphInfo}
 use Rattle.frames.specs.Hex.{hexByte, hexAll, field}
 use Rattle.frames.specs.Frames.{rowFrom, rowsFrom, glyphRows}
@@ -53,15 +55,15 @@ module _ (src l m : List ℕ) (at n : ℕ) where
 
 -- ---- the first bytes of a row
 
-module _ (bits l m : List ℕ) (row at j n : ℕ) (p : Put l at (hexAll (rowFrom bits row 0 j)) n m) where
+module _ (bits l m : List ℕ) (o : Order) (row at j n : ℕ) (p : Put l at (hexAll (rowFrom bits o row 0 j)) n m) where
   pub row-space : (count : ℕ) → j < count → at + 2 * count ≤ length l → n + 2 ≤ length m
-  row-space count h room = omega (arith, p .up-to, p .same, length-hex (rowFrom bits row 0 j), length-row bits row 0 j)
+  row-space count h room = omega (arith, p .up-to, p .same, length-hex (rowFrom bits o row 0 j), length-row bits o row 0 j)
 
-  pub row-turn : (byte k : ℕ) (o : List ℕ) → byte ≡ rowByte bits row j → Put m n (hexByte byte) k o → Put l at (hexAll (rowFrom bits row 0 (j + 1))) k o
-  row-turn byte k o is q =
-      rw (row-next bits row j, hex-snoc (rowFrom bits row 0 j) (rowByte bits row j), ← is) (then p q)
+  pub row-turn : (byte k : ℕ) (new : List ℕ) → byte ≡ rowByte bits o row j → Put m n (hexByte byte) k new → Put l at (hexAll (rowFrom bits o row 0 (j + 1))) k new
+  row-turn byte k new is q =
+      rw (row-next bits o row j, hex-snoc (rowFrom bits o row 0 j) (rowByte bits o row j), ← is) (then p q)
 
-  pub row-whole : (count : ℕ) → j ≤ count → count ≤ j → Put l at (hexAll (rowFrom bits row 0 count)) n m
+  pub row-whole : (count : ℕ) → j ≤ count → count ≤ j → Put l at (hexAll (rowFrom bits o row 0 count)) n m
   row-whole count h g = let e : j ≡ count = omega arith in rw e at p
 
 -- ---- the rows of a glyph
@@ -88,7 +90,7 @@ module _ (s : List ℕ) (b : BitmapData) (i : GlyphInfo) (l m : List ℕ) (at k 
       )
 
   pub rows-turn : (first stride row count e : ℕ) (o : List ℕ) → count ≡ rowBytes (i .width) → stride ≡ rowStride (i .width) (b .pad)
-      → first ≡ offsetOf s b (i .glyph .0) → row ≡ first + k * stride → Put m n (hexAll (rowFrom (bitsOf s b) row 0 count)) e o
+      → first ≡ offsetOf s b (i .glyph .0) → row ≡ first + k * stride → Put m n (hexAll (rowFrom (bitsOf s b) (orderOf b) row 0 count)) e o
       → Put l at (hexAll (rowsFrom s b i 0 (k + 1))) e o
   rows-turn first stride row count e o count-is stride-is first-is row-is q =
       rw (rows-next s b i k, ← first-is, ← stride-is, ← row-is, ← count-is) (then p q)

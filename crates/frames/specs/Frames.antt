@@ -7,23 +7,25 @@ use Rattle.tables.specs.declared.Record.{Record}
 use Rattle.lookup.specs.Lookup.{glyphOf}
 use Rattle.lookup.specs.declared.Found.{Found}
 use Rattle.names.specs.Names.{nameOf, nameBytes}
-use Rattle.bitmaps.specs.Rows.{rowBytes, rowByte}
+use Rattle.bitmaps.specs.Units.{orderOf, rowByte}
+use Rattle.bitmaps.specs.Rows.{rowBytes}
+use Rattle.bitmaps.specs.declared.Order.{Order}
 use Rattle.bitmaps.specs.Picture.{bitsOf, rowOf}
 use Rattle.place.specs.Info.{infoOf}
 use Rattle.place.specs.declared.GlyphInfo.{GlyphInfo}
 use Rattle.place.specs.declared.Prepared.{Prepared}
 use Rattle.frames.specs.Hex.{hexFour, field, _␣_}
 
--- n bytes, from byte j on, of the row that begins at byte `row` of the data
-unfoldable pub rowFrom : List ℕ → ℕ → ℕ → ℕ → List ℕ
-rowFrom bits row j zero = []
-rowFrom bits row j (suc n) = rowByte bits row j ∷ rowFrom bits row (j + 1) n
+-- n bytes of the row that begins at byte `row` of the data, eight columns each, from the j-th eight on
+unfoldable pub rowFrom : List ℕ → Order → ℕ → ℕ → ℕ → List ℕ
+rowFrom bits o row j zero = []
+rowFrom bits o row j (suc n) = rowByte bits o row j ∷ rowFrom bits o row (j + 1) n
 
 -- n rows of a glyph from row r on: "row bytes without padding"
 unfoldable pub rowsFrom : List ℕ → BitmapData → GlyphInfo → ℕ → ℕ → List ℕ
 rowsFrom s b i r zero = []
 rowsFrom s b i r (suc n) =
-    rowFrom (bitsOf s b) (rowOf s b (i .glyph .0) (i .width) r) 0 (rowBytes (i .width)) ++ rowsFrom s b i (r + 1) n
+    rowFrom (bitsOf s b) (orderOf b) (rowOf s b (i .glyph .0) (i .width) r) 0 (rowBytes (i .width)) ++ rowsFrom s b i (r + 1) n
 
 abbrev pub glyphRows : List ℕ → BitmapData → GlyphInfo → List ℕ
 glyphRows s b i = rowsFrom s b i 0 (i .height)

@@ -10,6 +10,7 @@ use tables::BitmapData;
 ghost use mathlib.Core.Path.{_≡_};
 ghost use Prim.Native.Nat.{_+_, _*_, _≤_, max};
 ghost use lib.ListN.{length};
+ghost use Rattle.bitmaps.specs.Units.{orderOf};
 ghost use Rattle.bitmaps.specs.Rows.{rowBytes};
 ghost use Rattle.bitmaps.specs.Picture.{bitsOf};
 ghost use Rattle.frames.specs.Hex.{hexAll, field};
@@ -24,10 +25,10 @@ pub(crate) fn rows_size(width: u16, height: u16) -> usize
     (height as usize) * (row_bytes(width) as usize)
 }
 
-// The digits of the first `count` bytes of the row that begins at byte `row` of the bitmap data.
+// The digits of the row that begins at byte `row` of the bitmap data: `count` times eight columns.
 fn put_row(s: &[u8], b: BitmapData, row: usize, count: usize, out: &mut [u8], at: usize) -> usize
     requires { ⌜ at + 2 * count ≤ length (now out) ⌝ }
-    ensures { λ r. ⌜ Put (now (out .entry)) at (hexAll (rowFrom (bitsOf (now (s .entry)) b) row 0 count)) r (now (out .exit)) ⌝ }
+    ensures { λ r. ⌜ Put (now (out .entry)) at (hexAll (rowFrom (bitsOf (now (s .entry)) b) (orderOf b) row 0 count)) r (now (out .exit)) ⌝ }
 {
     let mut n = at;
     let mut j: usize = 0;

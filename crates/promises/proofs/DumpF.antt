@@ -16,6 +16,7 @@ use Rattle.names.specs.Strings.{zeroFrom, stringAt}
 use Rattle.names.specs.Names.{nameOf}
 use Rattle.props.specs.Props.{propOf}
 use Rattle.bitmaps.specs.Paint.{some}
+use Rattle.bitmaps.specs.Units.{bitAt, byteOf, packed, rowByte}
 use Rattle.bitmaps.specs.Rows.{bytesPast}
 use Rattle.bitmaps.specs.Picture.{offsetOf, rowsShort}
 use Rattle.place.specs.Bounds.{boundsHold}
@@ -35,9 +36,9 @@ in-range : readInRange (hexBytes (typedLines linesF)) (hexRead (typedLines lines
 unfolding linesF framesF typed typedLines hexBytes linesOf digitOf goodLine bytesFrom hexRead digits numAt signed
     less128 propertiesTable propertiesAt acceleratorsTable acceleratorsAt wideAt narrowAt metricsTable metricsAt
     bitmapsTable bitmapsAt codesTable codesAt namesTable namesAt finished tableAt entryOf entryAt entriesFrom loaded
-    slotOf glyphOf metricsOf zeroFrom stringAt nameOf propOf some bytesPast rowsShort boundsHold placeable infoOf
+    slotOf glyphOf metricsOf zeroFrom stringAt nameOf propOf some byteOf bytesPast rowsShort boundsHold placeable infoOf
     firstFault codeFault hexDigit field frame frameOf framesFrom offsetOf propFault boxFault
-    allDigits pairs allPairs hexAll rowFrom rowsFrom codeRange
+    allDigits pairs allPairs hexAll bitAt packed rowByte rowFrom rowsFrom codeRange
 in-range = refl
 
 pub dump-F : dumped (typedLines linesF) ≡ typedLines framesF

@@ -22,6 +22,7 @@ use Rattle.names.specs.Strings.{zeroFrom, stringAt}
 use Rattle.names.specs.Names.{nameOf}
 use Rattle.props.specs.Props.{propOf}
 use Rattle.bitmaps.specs.Paint.{some}
+use Rattle.bitmaps.specs.Units.{byteOf}
 use Rattle.bitmaps.specs.Rows.{bytesPast}
 use Rattle.bitmaps.specs.Picture.{offsetOf, rowsShort}
 use Rattle.place.specs.Bounds.{boundsHold}
@@ -55,7 +56,7 @@ F-passes : IsPassed (loadedInRange F (loaded F))
 unfolding F linesF typed typedLines hexBytes linesOf digitOf digits numAt signed less128 propertiesTable propertiesAt
     acceleratorsTable acceleratorsAt wideAt narrowAt metricsTable metricsAt bitmapsTable bitmapsAt codesTable codesAt
     namesTable namesAt finished tableAt entryOf entryAt entriesFrom loaded slotOf glyphOf metricsOf zeroFrom stringAt
-    nameOf propOf some bytesPast rowsShort boundsHold placeable infoOf firstFault codeFault offsetOf propFault boxFault
+    nameOf propOf some byteOf bytesPast rowsShort boundsHold placeable infoOf firstFault codeFault offsetOf propFault boxFault
     pairs allPairs codeRange
 F-passes = tt
 

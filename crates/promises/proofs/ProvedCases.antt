@@ -13,7 +13,8 @@ use Rattle.load.specs.Load.{tableAt, entryOf, entryAt, entriesFrom, loaded}
 use Rattle.lookup.specs.Lookup.{slotOf, glyphOf, getGlyph}
 use Rattle.metrics.specs.Measure.{metricsOf, getMetrics}
 use Rattle.bitmaps.specs.Paint.{some, painted}
-use Rattle.bitmaps.specs.Rows.{column, bitAt, bytesPast}
+use Rattle.bitmaps.specs.Units.{bitAt, byteOf}
+use Rattle.bitmaps.specs.Rows.{bytesPast}
 use Rattle.bitmaps.specs.Dots.{blockDot, rowDot, someDot}
 use Rattle.bitmaps.specs.Picture.{offsetOf, rowsShort, glyphBit}
 use Rattle.bitmaps.specs.Draw.{shownAt}
@@ -36,7 +37,7 @@ pub proved-cases : Holds table
 unfolding table seen asked F linesF typed typedLines hexBytes linesOf digitOf digits numAt signed less128
     propertiesTable propertiesAt acceleratorsTable acceleratorsAt wideAt narrowAt metricsTable metricsAt bitmapsTable
     bitmapsAt codesTable codesAt namesTable namesAt propsFit metricsFit bitmapsFit codesFit namesFit recordFits finished
-    tableAt entryOf entryAt entriesFrom loaded slotOf glyphOf getGlyph metricsOf getMetrics some painted column bitAt bytesPast blockDot rowDot
+    tableAt entryOf entryAt entriesFrom loaded slotOf glyphOf getGlyph metricsOf getMetrics some painted bitAt byteOf bytesPast blockDot rowDot
     someDot rowsShort glyphBit shownAt boundsHold placeable infoOf prepared glyphDrawn charReady drawChar find leadOf leads longer
     stepAt decodeFrom decoded placed textFrom inText ready drawString offsetOf wrapped placedDrawn pairs allPairs
 proved-cases = (refl, (refl, (refl, (refl, (refl, (refl, (refl, (refl, (refl, (refl, tt))))))))))

@@ -73,8 +73,16 @@ use Rattle.names.proofs.name_bytes.Kinds as name-bytes-kinds
 use Rattle.names.proofs.name_bytes.Reads as name-bytes-reads
 use Rattle.bitmaps.proofs.no_bitmap.Kinds as no-bitmap-kinds
 use Rattle.bitmaps.proofs.no_bitmap.Reads as no-bitmap-reads
-use Rattle.bitmaps.proofs.shown_byte.Kinds as shown-byte-kinds
-use Rattle.bitmaps.proofs.shown_byte.Reads as shown-byte-reads
+use Rattle.bitmaps.proofs.held_byte.Kinds as held-byte-kinds
+use Rattle.bitmaps.proofs.held_byte.Reads as held-byte-reads
+use Rattle.bitmaps.proofs.order_of.Kinds as order-of-kinds
+use Rattle.bitmaps.proofs.order_of.Reads as order-of-reads
+use Rattle.bitmaps.proofs.row_end.Kinds as row-end-kinds
+use Rattle.bitmaps.proofs.row_end.Reads as row-end-reads
+use Rattle.bitmaps.proofs.shown.Kinds as shown-kinds
+use Rattle.bitmaps.proofs.shown.Reads as shown-reads
+use Rattle.bitmaps.proofs.usual.Kinds as usual-kinds
+use Rattle.bitmaps.proofs.usual.Reads as usual-reads
 use Rattle.bitmaps.proofs.bit_of.Kinds as bit-of-kinds
 use Rattle.bitmaps.proofs.bit_of.Reads as bit-of-reads
 use Rattle.bitmaps.proofs.unreadable.Kinds as unreadable-kinds
@@ -263,8 +271,20 @@ dimensions-unique κs a r₁ r₂ x₁ x₂ p q = p ∙ sym q
 pub no-bitmap-unique : Fixes 0 no-bitmap-kinds.ps no-bitmap-kinds.r no-bitmap-reads.Post
 no-bitmap-unique κs a r₁ r₂ x₁ x₂ p q = p ∙ sym q
 
-pub shown-byte-unique : Fixes 1 shown-byte-kinds.ps shown-byte-kinds.r shown-byte-reads.Post
-shown-byte-unique κs a r₁ r₂ x₁ x₂ p q = p ∙ sym q
+pub held-byte-unique : Fixes 0 held-byte-kinds.ps held-byte-kinds.r held-byte-reads.Post
+held-byte-unique κs a r₁ r₂ x₁ x₂ p q = p ∙ sym q
+
+pub order-of-unique : Fixes 0 order-of-kinds.ps order-of-kinds.r order-of-reads.Post
+order-of-unique κs a r₁ r₂ x₁ x₂ p q = p ∙ sym q
+
+pub row-end-unique : Fixes 0 row-end-kinds.ps row-end-kinds.r row-end-reads.Post
+row-end-unique κs a r₁ r₂ x₁ x₂ p q = p ∙ sym q
+
+pub shown-unique : Fixes 0 shown-kinds.ps shown-kinds.r shown-reads.Post
+shown-unique κs a r₁ r₂ x₁ x₂ p q = p ∙ sym q
+
+pub usual-unique : Fixes 0 usual-kinds.ps usual-kinds.r usual-reads.Post
+usual-unique κs a r₁ r₂ x₁ x₂ p q = p ∙ sym q
 
 pub bit-of-unique : Fixes 0 bit-of-kinds.ps bit-of-kinds.r bit-of-reads.Post
 bit-of-unique κs a r₁ r₂ x₁ x₂ p q = p ∙ sym q

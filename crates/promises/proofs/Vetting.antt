@@ -6,10 +6,10 @@ use mathlib.Core.Logic.{_↔_}
 use Prim.Native.Nat.{ℕ, _+_, _*_, _<_}
 use native.Mathlib.Omega.{arith}
 use lib.ListN.{length}
-use lib.Dec.{T, leb, eqb}
+use lib.Dec.{T, leb, ltb}
 use lib.IntN.{ℤ, pos, natAbs}
 use lib.Signed.{nonNeg, leZ, _≤ℤ_}
-use borrow.Author.Tests.{lt-leb, leb-true, leb-false, eqb-true, eq-eqb}
+use borrow.Author.Tests.{lt-leb, le-ltb, leb-true, leb-false, ltb-false}
 use Rattle.reads.specs.Num.{u32At}
 use Rattle.reads.specs.Said.{refusal}
 use Rattle.reads.specs.declared.GlyphIndex.{GlyphIndex}
@@ -27,8 +27,8 @@ use Rattle.names.specs.declared.Named.{Named}
 use Rattle.names.specs.declared.Span.{Span}
 use Rattle.metrics.specs.Measure.{glyphMetrics}
 use Rattle.names.proofs.EndsAtZero.{found-ends, ends-found}
+use Rattle.bitmaps.specs.Units.{orderOf, unitBytes, byteOf}
 use Rattle.bitmaps.specs.Picture.{unreadable, bitsOf, rowOf, rowsShort}
-use Rattle.bitmaps.specs.Rows.{byteOf}
 use Rattle.bitmaps.proofs.DataBytes.{data-length}
 use Rattle.bitmaps.proofs.RowsInside.{rows-inside, inside-rows}
 use Rattle.place.specs.Bounds.{heightOf, inRange, boundsHold, boundsOf}
@@ -65,12 +65,13 @@ ranged-told z a b = rw (natural-told z a, told z (pos 32767) b) refl
 -- 13
 pub order-good : (b : BitmapData) → unreadable b ≡ false → OrderGood b
 order-good b e =
-    split (eqb (b .unit) 0)
-    (λ t. split (b .top) (λ u. record { unit = eqb-true (b .unit) 0 t; top = u }) (λ u. never (sym (rw (t, u) at e))))
-    (λ t. never (sym (rw t at e)))
+    let bytes = unitBytes (b .unit) in
+    split (leb 3 (b .unit)) (λ t. never (sym (rw t at e)))
+    (λ t. split (ltb (b .pad) bytes) (λ u. never (sym (rw (t, u) at e)))
+    (λ u. record { unit = leb-false 3 (b .unit) t; pad = ltb-false (b .pad) bytes u }))
 
 pub good-order : (b : BitmapData) → OrderGood b → unreadable b ≡ false
-good-order b w = rw (eq-eqb (b .unit) 0 (w .unit), w .top) refl
+good-order b w = rw (lt-leb 3 (b .unit) (w .unit), le-ltb (b .pad) (unitBytes (b .unit)) (w .pad)) refl
 
 -- 11, of the bounds
 pub bounds-good : (m : MetricsUnpacked) → boundsHold m ≡ true → BoundsGood m
@@ -128,13 +129,13 @@ module _ (s : List ℕ) (rec : Record) (fits : recordFits (length s) rec ≡ tru
 
     pub rows-good : short ≡ false → RowsGood s rec g
     rows-good e r c h l =
-        subst (λ size. rowOf s (rec .bitmaps) g (natAbs (measures .width)) r + byteOf c < size) data-size
+        subst (λ size. rowOf s (rec .bitmaps) g (natAbs (measures .width)) r + byteOf (orderOf (rec .bitmaps)) c < size) data-size
         (rows-inside s (rec .bitmaps) g (natAbs (measures .width)) (natAbs (heightOf measures)) e r c h l)
 
     pub good-rows : RowsGood s rec g → short ≡ false
     good-rows w =
         inside-rows s (rec .bitmaps) g (natAbs (measures .width)) (natAbs (heightOf measures)) (λ r c h l.
-        subst (λ size. rowOf s (rec .bitmaps) g (natAbs (measures .width)) r + byteOf c < size) (sym data-size) (w r c h l))
+        subst (λ size. rowOf s (rec .bitmaps) g (natAbs (measures .width)) r + byteOf (orderOf (rec .bitmaps)) c < size) (sym data-size) (w r c h l))
 
   -- 18, of a property
   pub property-good : (i : ℕ) → Readable s (rec .props) i → PropertyGood s (rec .props) i

@@ -1,9 +1,9 @@
 -- When a font passes vetting, in plain logic. From document 01, "Vetting": "Passes when loading does and, in this order: no 13; the
 -- bounds hold (11); every property's strings end (18); then for each code 0 to 65,535 that has a glyph: 10, 11, 12, 14 over all rows,
--- 17, 18 don't occur."
-use Prim.Native.Nat.{ℕ, _+_, _*_, _<_}
+-- 17, 18 don't occur." From document 02: "13 remains for unit code 3 and for a unit wider than the row pad; 14 concerns the byte that
+-- really holds the column".
+use Prim.Native.Nat.{ℕ, _+_, _*_, _≤_, _<_}
 use mathlib.Core.Path.{_≡_}
-use mathlib.Core.Bool.{true}
 use mathlib.Core.List.{List}
 use lib.IntN.{ℤ, pos, natAbs}
 use lib.Signed.{_≤ℤ_}
@@ -19,8 +19,8 @@ use Rattle.lookup.specs.Lookup.{glyphOf}
 use Rattle.lookup.specs.declared.Found.{Found}
 use Rattle.names.specs.Strings.{EndsIn}
 use Rattle.metrics.specs.Measure.{glyphMetrics}
+use Rattle.bitmaps.specs.Units.{orderOf, unitBytes, byteOf}
 use Rattle.bitmaps.specs.Picture.{rowOf}
-use Rattle.bitmaps.specs.Rows.{byteOf}
 use Rattle.place.specs.Bounds.{heightOf, boundsOf}
 
 -- this code has this glyph
@@ -53,11 +53,11 @@ pub record PropertyGood (s : List ℕ) (p : PropertiesData) (i : ℕ) : Type 0 w
 abbrev pub PropertiesGood : List ℕ → PropertiesData → ℕ → Type 0
 PropertiesGood s p end = (i : ℕ) → i < end → PropertyGood s p i
 
--- every column of every row of a glyph has its byte in the bitmap data
+-- "the byte that really holds the column", of every column of every row of a glyph, lies in the bitmap data
 abbrev pub RowsGood : List ℕ → Record → ℕ → Type 0
 RowsGood s rec g =
     (r c : ℕ) → r < natAbs (heightOf (glyphMetrics s (rec .metrics) g)) → c < natAbs (glyphMetrics s (rec .metrics) g .width)
-    → rowOf s (rec .bitmaps) g (natAbs (glyphMetrics s (rec .metrics) g .width)) r + byteOf c < rec .bitmaps .size
+    → rowOf s (rec .bitmaps) g (natAbs (glyphMetrics s (rec .metrics) g .width)) r + byteOf (orderOf (rec .bitmaps)) c < rec .bitmaps .size
 
 -- a glyph's name ends
 abbrev pub NameEnds : List ℕ → GlyphNameData → ℕ → Type 0
@@ -76,10 +76,10 @@ pub record GlyphGood (s : List ℕ) (rec : Record) (g : ℕ) : Type 0 where
 abbrev pub CodesGood : List ℕ → Record → ℕ → Type 0
 CodesGood s rec end = (code g : ℕ) → code < end → HasGlyph s rec code g → GlyphGood s rec g
 
--- not 13: one-byte scan units, the top bit leftmost
+-- not 13: no "unit code 3", no "unit wider than the row pad"
 pub record OrderGood (b : BitmapData) : Type 0 where
-  pub unit : b .unit ≡ 0
-  pub top : b .top ≡ true
+  pub unit : b .unit < 3
+  pub pad : unitBytes (b .unit) ≤ b .pad
 
 -- a font that passes, and its record: "such bytes with the record that loading gave for them"
 pub record Passes (s : List ℕ) (rec : Record) : Type 0 where

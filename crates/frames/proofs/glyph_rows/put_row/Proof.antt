@@ -1,6 +1,7 @@
 -- The invariant: the digits of the row's first j bytes stand in the buffer.
 use Prim.Native.Nat.{_-_, _≤_}
 use borrow.Author.Needs.{needs}
+use Rattle.bitmaps.specs.Units.{orderOf}
 use Rattle.bitmaps.specs.Picture.{bitsOf}
 use Rattle.frames.specs.Hex.{hexAll}
 use Rattle.frames.specs.Frames.{rowFrom}
@@ -10,7 +11,7 @@ use Rattle.frames.proofs.glyph_rows.put_row.Statement.{statement}
 use Rattle.frames.proofs.glyph_rows.put_row.Tie as tie
 
 abbrev Inv-loop : tie.InvT-loop
-Inv-loop s b row count out₀ at n₀ j₀ out n j = (j ≤ count) × Put out₀ at (hexAll (rowFrom (bitsOf s b) row 0 j)) n out
+Inv-loop s b row count out₀ at n₀ j₀ out n j = (j ≤ count) × Put out₀ at (hexAll (rowFrom (bitsOf s b) (orderOf b) row 0 j)) n out
 
 abbrev μ-loop : tie.MeasureT-loop
 μ-loop s b row count out₀ at n₀ j₀ out n j = count - j
