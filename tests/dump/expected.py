@@ -13,7 +13,7 @@ import model  # noqa: E402
 import stored  # noqa: E402
 from common import fail  # noqa: E402
 from dump import make  # noqa: E402
-from pcf import font_f  # noqa: E402
+from pcf import font_f, orders  # noqa: E402
 
 # every number that a dump can print: the others are about calls that it does not make
 PRINTED = [1, 2, 3, 4, 5, 6, 7, 8, 10, 11, 12, 13, 14, 17, 18, 20]
@@ -26,17 +26,25 @@ def refused(output):
 
 
 def outputs(inputs):
-    """what is written for each input; its name says whether it is refused"""
+    """what is written for each input; its name says whether it is refused, but of those by lot"""
     made = {}
     for name, text in inputs.items():
         made[name] = model.dump(text)
         said = re.match(r"refused_(\d\d)_", name)
-        if refused(made[name]) != (int(said[1]) if said else None):
+        if not name.startswith("by_lot_") and refused(made[name]) != (int(said[1]) if said else None):
             fail("%s: the model says %s" % (name, made[name][:80]))
     seen = sorted({refused(output) for output in made.values()} - {None})
     if seen != PRINTED:
         fail("the inputs show refusals %s" % seen)
     return made
+
+
+def one_picture(written):
+    """how many orders one font is written in; the dump of it is the same in all"""
+    dumps = [output for name, output in written.items() if name.startswith("order_")]
+    if len(dumps) != len(orders.ORDERS) or len(set(dumps)) != 1:
+        fail("the model says %d things of one font in %d orders" % (len(set(dumps)), len(dumps)))
+    return len(dumps)
 
 
 def main():
@@ -54,7 +62,8 @@ def main():
     stored.hold_data("dump_files", inputs)
     stored.hold(want, write)
     refusals = sum(refused(output) is not None for output in written.values())
-    print("dump: %d inputs are as made, %d of them refused; the outputs agree with the model" % (len(inputs), refusals))
+    print("dump: %d inputs are as made, %d of them refused and %d one font in every order; the outputs agree with the "
+          "model" % (len(inputs), refusals, one_picture(written)))
 
 
 if __name__ == "__main__":

@@ -2,20 +2,21 @@
 """Writes the inputs of crates/dump_files/data: fonts as lines of hexadecimal digits, and texts that are no
 such lines.
 
-An input is named after what it shows; refused_NN_.. is one that is refused with NN."""
+An input is named after what it shows; refused_NN_.. is one that is refused with NN, by_lot_.. one that may be."""
 import os
+import random
 import sys
 
 sys.path.insert(0, os.path.dirname(os.path.dirname(os.path.abspath(__file__))))
 
 import stored  # noqa: E402
 from fonts import make as fonts  # noqa: E402
-from pcf import font_f, numbers  # noqa: E402
+from pcf import font_f, numbers, orders  # noqa: E402
 from pcf.font_f import DIGITS, THREE  # noqa: E402
 from pcf.numbers import BIG, NO_GLYPH, TOP, padded  # noqa: E402
-from pcf.rewriting import askew, with_size  # noqa: E402
+from pcf.rewriting import askew, reordered, with_size  # noqa: E402
 from pcf.tables import (PADS, accelerators, bitmaps, codes, font, laid_out, names, narrow_metrics,  # noqa: E402
-                        properties, wide_metrics)
+                        properties, row_stride, wide_metrics)
 
 MOST = 49152  # the bytes that a font may have
 
@@ -58,21 +59,52 @@ def with_codes(second, first, entries, form=0):
     return digits_but(codes(form, second, first, 0, entries))
 
 
-def in_rows(pad, form):
-    """glyphs 1, 8, 9 and 16 pixels wide and two rows high; no two bytes of the data are the same"""
-    widths = (1, 8, 9, 16)
-    offsets, size = laid_out([(0, width, 1, 1) for width in widths], pad)
-    picked = PADS.index(pad)
-    sizes = [0] * 4
-    sizes[picked] = size
+def sizes_for(form, size):
+    """of the bitmap data: the one that the row pad picks; the others are not looked at"""
+    return [size if code == form & 3 else 0 for code in range(4)]
+
+
+def of_rows(boxes, rows, form=0):
+    """codes from 0x61 on: glyphs of these boxes, named after their letters, and this table of their rows"""
+    count = len(boxes)
     return font([
         properties(form, [], b""),
-        bounds((0, 0, 16, 2, 0, 0), form),
-        narrow_metrics(form, [(0, 0, width, 1, 1) for width in widths]),
-        bitmaps(form | TOP | picked, offsets, sizes, bytes(255 - k for k in range(size))),
-        codes(form, (0x61, 0x64), (0, 0), 0x61, [0, 1, 2, 3]),
-        names(form, [0, 2, 4, 6], b"a\0b\0c\0d\0"),
+        bounds((0, 0, 42, 2, 0, 0), form),
+        narrow_metrics(form, [(left, 0, width, ascent, descent) for left, width, ascent, descent in boxes]),
+        rows,
+        codes(form, (0x61, 0x60 + count), (0, 0), 0x61, list(range(count))),
+        names(form, [2 * k for k in range(count)], b"".join(b"%c\0" % (0x61 + k) for k in range(count))),
     ])
+
+
+def in_rows(pad, form, widths=(1, 8, 9, 16)):
+    """glyphs of these widths, two rows high; no two bytes of the data are the same"""
+    boxes = [(0, width, 1, 1) for width in widths]
+    offsets, size = laid_out(boxes, pad)
+    order = form | TOP | PADS.index(pad)
+    return of_rows(boxes, bitmaps(order, offsets, sizes_for(order, size), bytes(255 - k for k in range(size))), form)
+
+
+def around_units():
+    """glyphs as wide as units of 1, 2 and 4 bytes, and a column less or more"""
+    return in_rows(1, 0, (1, 7, 8, 9, 15, 16, 17, 25, 31, 32, 33, 40))
+
+
+def ending(form, width, more=0):
+    """one glyph of two rows; the data ends with the last byte that holds a column, or so many bytes after it"""
+    size = row_stride(width, PADS[form & 3]) + orders.needed(width, form) + more
+    data = bytes(0x12 + 0x13 * k for k in range(size))
+    return of_rows([(0, width, 1, 1)], bitmaps(form, [0], sizes_for(form, size), data))
+
+
+def by_lot(seed):
+    """some glyphs in any order, now and then one that is refused (13); data that may end too early"""
+    rng = random.Random(seed)
+    form = rng.choice(orders.ORDERS) if rng.randrange(4) else rng.randrange(64)
+    boxes = [(0, rng.randrange(42), rng.randrange(3), rng.randrange(2)) for _ in range(4)]
+    offsets, size = laid_out(boxes, PADS[form & 3])
+    size = max(0, size - rng.choice((0, 0, 0, 1, 2, 3, 4, 7)))
+    return of_rows(boxes, bitmaps(form, offsets, sizes_for(form, size), rng.randbytes(size)))
 
 
 def padded_rows(size):
@@ -190,11 +222,15 @@ def vetting():
     no_glyphs = codes(0, (0x30, 0x31), (0, 0), 0x30, [NO_GLYPH, NO_GLYPH])
     bad_bounds = bounds((0, 0, -1, 3, 0, 0))
     # 13, and that it is first
-    yield "refused_13_unit_of_2_bytes", digits_but(bitmaps(TOP | 16, [0, 3], [6] * 4, bytes(6)))
-    yield "refused_13_unit_of_4_bytes", digits_but(bitmaps(TOP | 32, [0, 3], [6] * 4, bytes(6)))
-    yield "refused_13_lowest_bit_left", digits_but(bitmaps(0, [0, 3], [6] * 4, bytes(6)))
-    yield "refused_13_before_11", digits_but(bitmaps(0, [0, 3], [6] * 4, bytes(6)), bad_bounds)
-    yield "refused_13_without_glyphs", digits_but(bitmaps(0, [], [0] * 4, b""), no_glyphs)
+    units_of_code_3 = bitmaps(TOP | 48 | 3, [0, 3], [6] * 4, bytes(6))
+    yield "refused_13_unit_code_3", digits_but(units_of_code_3)
+    yield "refused_13_unit_code_3_lowest_bit_left", digits_but(bitmaps(48 | 3, [0, 3], [6] * 4, bytes(6)))
+    for unit, pad in ((2, 1), (4, 1), (4, 2)):
+        for top in (True, False):
+            wider = bitmaps(orders.order_bits(False, top, unit, pad), [0, 3], [6] * 4, bytes(6))
+            yield "refused_13_unit_%d_pad_%d_%s" % (unit, pad, "top" if top else "lowest"), digits_but(wider)
+    yield "refused_13_before_11", digits_but(units_of_code_3, bad_bounds)
+    yield "refused_13_without_glyphs", digits_but(bitmaps(TOP | 48, [], [0] * 4, b""), no_glyphs)
     # 11 of the bounds
     yield "refused_11_bounds_ascent", digits_but(bounds((0, 0, 3, -1, 9, 0)))
     yield "refused_11_bounds_width", digits_but(bad_bounds)
@@ -288,9 +324,22 @@ def frames():
     yield "largest_frame", largest_frame()
 
 
+def in_orders():
+    """one font in every order; then 14, which concerns the byte that holds the column"""
+    for form in orders.ORDERS:
+        yield "order_" + orders.told(form), reordered(around_units(), form)
+    for form in orders.ORDERS:
+        for width in {(2, 2): [3], (4, 4): [9, 16], (4, 8): [3]}.get((orders.unit_bytes(form), PADS[form & 3]), []):
+            yield "ends_with_column_%d_%s" % (width, orders.told(form)), ending(form, width)
+            yield "refused_14_column_%d_%s" % (width, orders.told(form)), ending(form, width, -1)
+    for seed in range(20):
+        yield "by_lot_%d" % seed, by_lot(seed)
+
+
 def font_files():
     """the fonts themselves"""
-    return {name + ".pcf": content for group in (loading(), vetting(), frames()) for name, content in group}
+    groups = loading(), vetting(), frames(), in_orders()
+    return {name + ".pcf": content for group in groups for name, content in group}
 
 
 def files():

@@ -1,7 +1,8 @@
 """Fonts that the tests are asked about, each from a description of its tables."""
 from pcf.font_f import DIGITS, THREE, two_digits
 from pcf.numbers import BIG, NO_GLYPH, TOP
-from pcf.rewriting import askew, with_bytes, with_offset, with_size
+from pcf.orders import order_bits
+from pcf.rewriting import askew, reordered, with_bytes, with_offset, with_size
 from pcf.tables import (accelerators, bitmaps, codes, font, names, narrow_metrics, other, properties,
                         wide_metrics)
 
@@ -32,6 +33,11 @@ def wide():
         codes(0, (0, 4), (0, 0), 0, [0, 1, 2, 3, 300]),
         names(0, [0, 6], b"first\0last"),
     )])
+
+
+def lowest_bit_left():
+    """font F with rows of 8 bytes in units of 4, big-endian numbers whose lowest bit is leftmost"""
+    return reordered(two_digits(), order_bits(True, False, 4, 8))
 
 
 def repeated():
@@ -80,6 +86,7 @@ def files():
         "f.pcf": two_digits(),
         "big_two_byte.pcf": big_two_byte(),
         "wide_metrics.pcf": wide(),
+        "lowest_bit_left.pcf": lowest_bit_left(),
         "repeated.pcf": repeated(),
         "limits.pcf": limits(64),
     }

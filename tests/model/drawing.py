@@ -18,6 +18,48 @@ def row_stride(rec, width):
     return s
 
 
+def cannot_draw(bm):
+    """13: scan unit code 3, which is none, or a unit wider than the row pad"""
+    return bm["unit"] > 2 or 2 ** bm["unit"] > bm["pad"]
+
+
+def holder(bm, column):
+    """The byte of a row, from the row's start, that holds a column, and the value of the column's bit in it. A row is
+    units, each a number in the table's byte order; the leftmost pixel is the top bit, or the lowest where bit 8 is
+    clear. So the number of a unit in which this pixel alone is set has one byte that is not 0."""
+    n = 2 ** bm["unit"]
+    left = column % (8 * n)                  # so many pixels of the unit are left of this one
+    number = 2 ** (8 * n - 1 - left) if bm["top"] else 2 ** left
+    unit = number.to_bytes(n, "big" if bm["big"] else "little")
+    for i in range(n):
+        if unit[i] != 0:
+            return column // (8 * n) * n + i, unit[i]
+
+
+def row_starts(b, rec, g, width, rows):
+    """where in the bitmap data each row of a glyph begins"""
+    bm = rec["bitmaps"]
+    off = u32(b, bm["offsets"] + 4 * g, bm["big"])
+    rs = row_stride(rec, width)
+    return [off + r * rs for r in range(rows)]
+
+
+def lacks_data(bm, starts, columns):
+    """14: the byte that holds a column of a row lies beyond the data"""
+    places = [holder(bm, c)[0] for c in range(columns)]
+    for start in starts:
+        for at in places:
+            if start + at >= bm["size"]:
+                return True
+    return False
+
+
+def is_set(b, bm, start, column):
+    """whether the pixel of a column is set, in the row that begins there in the data"""
+    at, value = holder(bm, column)
+    return (b[bm["bits"] + start + at] // value) % 2 == 1
+
+
 def bad_start_stride(start, stride):
     if not (1 <= stride and stride <= 65535):
         return True
@@ -35,21 +77,17 @@ def picture(b, rec, g, width, height, L, p, stride, scale):
     bm = rec["bitmaps"]
     if g >= bm["count"]:
         return 12
-    if bm["unit"] != 0 or not bm["top"]:
+    if cannot_draw(bm):
         return 13
     m = 0 if p > L else (L - p) // stride
     rows = min(height, (m // scale) * scale)
-    off = u32(b, bm["offsets"] + 4 * g, bm["big"])
-    rs = row_stride(rec, width)
-    for r in range(rows):
-        for k in range(ceil8(width)):
-            if off + r * rs + k >= bm["size"]:
-                return 14
+    starts = row_starts(b, rec, g, width, rows)
+    if lacks_data(bm, starts, width):
+        return 14
     pixels = []
     for r in range(rows):
         for c in range(width):
-            byte = b[bm["bits"] + off + r * rs + c // 8]
-            if (byte // (2 ** (7 - c % 8))) % 2 == 1:
+            if is_set(b, bm, starts[r], c):
                 for a in range(scale):
                     for bb in range(scale):
                         q = p + r * stride * scale + c * scale + a * stride + bb
@@ -141,21 +179,17 @@ def unpack_check(b, rec, info, L, start, stride):
     bm = rec["bitmaps"]
     if info["glyph"] >= bm["count"]:
         return 0, []
-    if bm["unit"] != 0 or not bm["top"]:
+    if cannot_draw(bm):
         raise Refused(13)
     p = start + stride * info["pad_top"] + info["pad_left"]
-    off = u32(b, bm["offsets"] + 4 * info["glyph"], bm["big"])
-    rs = row_stride(rec, info["width"])
-    n = ceil8(info["width"])
-    for r in range(info["height"]):
-        for k in range(n):
-            if off + r * rs + k >= bm["size"]:
-                raise Refused(14)
+    starts = row_starts(b, rec, info["glyph"], info["width"], info["height"])
+    columns = 8 * ceil8(info["width"])       # whole bytes
+    if lacks_data(bm, starts, columns):
+        raise Refused(14)
     pixels = []
     for r in range(info["height"]):
-        for c in range(8 * n):
-            byte = b[bm["bits"] + off + r * rs + c // 8]
-            if (byte // (2 ** (7 - c % 8))) % 2 == 1:
+        for c in range(columns):
+            if is_set(b, bm, starts[r], c):
                 q = p + r * stride + c
                 if q >= L:
                     raise Refused(16)

@@ -1,8 +1,7 @@
 """The dump: its input, lines of hexadecimal digits, and a frame for each code with a glyph."""
 from model.codes import lookup
-from model.drawing import ceil8, row_stride
+from model.drawing import ceil8, is_set, row_starts
 from model.metrics import place_glyph
-from model.reads import u32
 from model.refusal import Refused
 from model.strings import name_part
 from model.vetting import vet
@@ -40,6 +39,14 @@ def hex_read(text):
     return len(hex_bytes(text))
 
 
+def picture_byte(b, bm, start, k):
+    """columns 8k to 8k + 7 of a row, top bit leftmost"""
+    byte = 0
+    for c in range(8 * k, 8 * k + 8):
+        byte = 2 * byte + is_set(b, bm, start, c)
+    return byte
+
+
 def dump(text):
     try:
         b = hex_bytes(text)
@@ -55,12 +62,10 @@ def dump(text):
         info = place_glyph(b, rec, g)
         ns, nl = name_part(b, rec, g)
         name = "".join("%02X" % b[ns + k] for k in range(nl))
-        off = u32(b, bm["offsets"] + 4 * g, bm["big"])
-        rs = row_stride(rec, info["width"])
         rows = ""
-        for r in range(info["height"]):
+        for start in row_starts(b, rec, g, info["width"], info["height"]):
             for k in range(ceil8(info["width"])):
-                rows = rows + "%02X" % b[bm["bits"] + off + r * rs + k]
+                rows = rows + "%02X" % picture_byte(b, bm, start, k)
         if name == "":
             name = "-"
         if rows == "":

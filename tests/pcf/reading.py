@@ -1,7 +1,7 @@
 """Reads a font's bytes again: its directory, its tables as bytes, and tables in the words of tables.py."""
 import struct
 
-from pcf.numbers import BIG, NO_GLYPH
+from pcf.numbers import BIG, COMPRESSED, NO_GLYPH
 from pcf.tables import CODES
 
 
@@ -41,6 +41,16 @@ def codes_with_glyph(font, rows):
     """how many codes of a font's first rows have a glyph"""
     *_, entries = first_rows(rows, *next(codes(table) for kind, _, table in tables(font) if kind == CODES))
     return sum(entry != NO_GLYPH for entry in entries)
+
+
+def metrics(form, table):
+    """left and right bearing, width, ascent and descent of each glyph; the format is the directory's"""
+    sign = ">" if form & BIG else "<"
+    if form & COMPRESSED:
+        count, = struct.unpack_from(sign + "H", table, 4)
+        return [tuple(n - 128 for n in table[at:at + 5]) for at in range(6, 6 + 5 * count, 5)]
+    count, = struct.unpack_from(sign + "I", table, 4)
+    return [struct.unpack_from(sign + "5h", table, 8 + 12 * k) for k in range(count)]
 
 
 def bitmaps(table):

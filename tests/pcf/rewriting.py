@@ -1,7 +1,7 @@
 """Changes a font's bytes, or a table that is to stand in a font."""
-from pcf import reading
+from pcf import orders, reading
 from pcf.numbers import BIG, COMPRESSED, word
-from pcf.tables import BITMAPS, METRICS, bitmaps, font
+from pcf.tables import BITMAPS, METRICS, PADS, bitmaps, font, row_stride
 
 
 def with_bytes(b, at, new):
@@ -25,16 +25,53 @@ def askew(table, bits=BIG):
     return kind, form ^ bits, content
 
 
-def padded_to_8(b):
-    """a font whose rows are padded to 4 bytes with rows padded to 8; where some are longer, as it is"""
-    made = []
-    for kind, form, content in reading.tables(b):
-        if kind == BITMAPS:
-            own, offsets, sizes, data = reading.bitmaps(content)
-            if sizes[3] != 2 * sizes[2]:
-                return b
-            rows = b"".join(data[i:i + 4] + b"\xFF" * 4 for i in range(0, len(data), 4))
-            _, _, content = bitmaps(own | 3, [2 * n for n in offsets], sizes, rows)
-            form |= 3
-        made.append((kind, form, content))
-    return font(made)
+# ---- another order of the bitmaps
+
+
+def by_character(left, right, width, ascent, descent):
+    """how wide a glyph's rows are: as document 01 has it"""
+    return width
+
+
+def by_box(left, right, width, ascent, descent):
+    """and as X11 has it, whose fonts are written so"""
+    return right - left
+
+
+def bitmap_format(b):
+    return next(reading.own_format(table)[0] for kind, _, table in reading.tables(b) if kind == BITMAPS)
+
+
+def with_bitmap_format(b, form):
+    """another format of the bitmap table, all else as it was"""
+    return font([(kind, form, word(form) + content[4:]) if kind == BITMAPS else (kind, its, content)
+                 for kind, its, content in reading.tables(b)])
+
+
+def rows_of(data, offset, width, height, form):
+    """a glyph's rows, each as bytes"""
+    stride = row_stride(width, PADS[form & 3])
+    return [data[at:at + stride] for at in range(offset, offset + height * stride, stride)]
+
+
+def reordered_table(table, measures, form, width_of):
+    """a bitmap table whose rows, as many and as wide as the metrics say, have the order of the format's bits"""
+    old, offsets, _, data = reading.bitmaps(table)
+    starts, made, sizes, seen = [], [], [0] * 4, {}
+    for offset, measure in zip(offsets, measures):
+        width, height = width_of(*measure), measure[3] + measure[4]
+        starts.append(sizes[form & 3])
+        for row in rows_of(data, offset, width, height, old):
+            if (row, width) not in seen:  # rows are often the same, and a font may have a million
+                seen[row, width] = orders.written(orders.padded(orders.pixels(row, old), width, form), form)
+            made.append(seen[row, width])
+        sizes = [size + height * row_stride(width, pad) for size, pad in zip(sizes, PADS)]
+    return bitmaps(form, starts, sizes, b"".join(made))
+
+
+def reordered(b, form, width_of=by_character):
+    """the same font with its bitmaps in another order"""
+    listed = reading.tables(b)
+    measures = next(reading.metrics(its, table) for kind, its, table in listed if kind == METRICS)
+    return font([reordered_table(content, measures, form, width_of) if kind == BITMAPS else (kind, its, content)
+                 for kind, its, content in listed])

@@ -2,8 +2,8 @@
 
 Not asked is what docs/DIFFERENCES.md lists, where the port departs from 000 on purpose: so codes above 65,535 are none
 whose lower bytes have a glyph, no row whose width is a multiple of 8 ends the data, no directory has over 64
-entries, and no text has a code below the table's first one. Nor is a value that refusal 11 refuses, where 000
-answers it."""
+entries, no text has a code below the table's first one, and no font is drawn whose rows are in an order that the port
+alone draws. Nor is a value asked that refusal 11 refuses, where 000 answers it."""
 import random
 
 from pcf.numbers import BIG, TOP
@@ -165,7 +165,7 @@ def drawings():
     yield twins.askew(), [char(0x61, 120, 4, 40, 1), char(0x61, 120, 4, 40, 2), text("aa\na", 400, 41)]
     yield twins.sizes_beyond(), [char(0x31, 9, 0, 3, 1), text("01", 36, 6, wrap=6)]
     yield twins.few(), few_drawings()
-    for form in (0, TOP | 16, 48):
+    for form in (TOP | 16, 48):
         yield twins.not_drawn(form), not_drawings()
     yield twins.wide(BIG, 3), [*(char(0x30 + k, 130, 0, 13, 1) for k in range(4)), text("01\n2", 200, 14)]
     yield twins.wide(0, 0), [char(0x30, 9, 0, 3, 1), text("01\n0", 9, 3)]

@@ -132,7 +132,8 @@ def few():
 
 
 def not_drawn(form):
-    """a scan unit of more than a byte, or the lowest bit leftmost"""
+    """a scan unit of more bytes than a row is padded to, or of code 3; or the lowest bit leftmost, which 000 does not
+    draw"""
     rows = bitmaps(form, [0, 3], [7, 0, 0, 0], b"\xe0\xa0\xe0\x40\x40\x40\0")
     return font([NO_PROPERTIES, bounds(0, 3, 3, 0), DIGIT_METRICS, rows, DIGIT_CODES, DIGIT_NAMES])
 

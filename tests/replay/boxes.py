@@ -7,8 +7,9 @@ from pcf.tables import (PADS, accelerators, bitmaps, codes, font, laid_out, name
                         wide_metrics)
 
 
-def of_glyphs(form, pad, top, boxes, offsets, data, metrics=wide_metrics):
-    """codes from 0x41 on; `boxes` has left bearing, width, ascent, descent of each glyph"""
+def of_glyphs(form, pad, top, boxes, offsets, data, metrics=wide_metrics, bits=TOP):
+    """codes from 0x41 on; `boxes` has left bearing, width, ascent, descent of each glyph; `bits` are of the bitmaps'
+    format alone"""
     picked = PADS.index(pad)
     sizes = [0] * 4
     sizes[picked] = len(data)
@@ -17,7 +18,7 @@ def of_glyphs(form, pad, top, boxes, offsets, data, metrics=wide_metrics):
         properties(form, [], b""),
         accelerators(form, [0] * 8, top, 0, 0, THREE, (0, 0, 9, top, 0, 0)),
         metrics(form, [record(left, 0, width, ascent, descent, 0) for left, width, ascent, descent in boxes]),
-        bitmaps(form | TOP | picked, offsets, sizes, data),
+        bitmaps(form | bits | picked, offsets, sizes, data),
         codes(form, (0x41, 0x40 + len(boxes)), (0, 0), 0x41, list(range(len(boxes)))),
         names(form, [0] * len(boxes), b"x\0"),
     ])
@@ -32,10 +33,10 @@ def widths(pad, form):
     return of_glyphs(form, pad, 3, boxes, offsets, data, narrow_metrics if pad < 4 else wide_metrics)
 
 
-def mixed(seed):
-    """a dozen small glyphs, sparse and dense, some with too little data"""
+def mixed(seed, bits=TOP):
+    """a dozen small glyphs, sparse and dense, some with too little data; units are at most as wide as the row pad"""
     rng = random.Random(seed)
-    pad, form = rng.choice(PADS), rng.choice((0, BIG))
+    pad, form = rng.choice(PADS[bits >> 4:]), rng.choice((0, BIG))
     boxes = []
     for _ in range(12):
         ascent = rng.randrange(4)
@@ -44,7 +45,15 @@ def mixed(seed):
     data = bytes(rng.randrange(256) & rng.choice((0, 0x11, 0x80, 0x81, 255)) for _ in range(size))
     short = rng.randrange(12)
     offsets[short] = max(0, size - rng.randrange(4))
-    return of_glyphs(form, pad, 4, boxes, offsets, data)
+    return of_glyphs(form, pad, 4, boxes, offsets, data, bits=bits)
+
+
+def units():
+    """glyphs as wide as units of 1, 2 and 4 bytes, and a column less or more; 1 or 2 high"""
+    rng = random.Random(9)
+    boxes = [(w % 2, w, 1, w // 8 % 2) for w in (1, 7, 8, 9, 15, 16, 17, 24, 25, 31, 32, 33, 40)]
+    offsets, size = laid_out(boxes, 1)
+    return of_glyphs(0, 1, 2, boxes, offsets, rng.randbytes(size), narrow_metrics)
 
 
 def large():

@@ -12,6 +12,7 @@ sys.path.insert(0, os.path.dirname(os.path.dirname(os.path.abspath(__file__))))
 import model  # noqa: E402
 import stored  # noqa: E402
 from common import fail  # noqa: E402
+from pcf.orders import ORDERS  # noqa: E402
 from replay import calls, make  # noqa: E402
 
 # every number that each call can refuse with; the recorded ones are left out, and do not stand in for the others
@@ -175,6 +176,15 @@ def output(inputs, seen):
     return "".join(text + "\n" for text in made).encode()
 
 
+def one_picture(inputs):
+    """how many orders one font is written in; its calls have the same answers in all"""
+    fonts = [section for name, sections in inputs.items() if name.startswith("orders_in_rows_") for section in sections]
+    answers = {tuple(lines(b, of_font, collections.Counter()))[1:] for b, of_font in fonts}
+    if len(fonts) != len(ORDERS) or len(answers) != 1:
+        fail("the model answers in %d ways about one font in %d orders" % (len(answers), len(fonts)))
+    return len(fonts)
+
+
 def check_refusals(seen, refused):
     for call, numbers in refused.items():
         shown = sorted({number for (of, number) in seen if of == call})
@@ -201,9 +211,9 @@ def main():
     stored.hold_data("replay", files)
     stored.hold(want, write)
     print("replay: %d calls that draw in %d files, %d that read in %d and %d recorded ones in %d are as made, and the "
-          "output agrees with the model" % (
+          "output agrees with the model; one font in %d orders has one answer to each call" % (
               counted(seen[0], DRAWING), len(drawn), counted(seen[1], READING), len(read),
-              counted(seen[2], {**DRAWING, **READING}), len(recorded)))
+              counted(seen[2], {**DRAWING, **READING}), len(recorded), one_picture(drawn)))
 
 
 if __name__ == "__main__":

@@ -51,19 +51,18 @@ def records():
         yield from (but(call, **changes) for call in calls)
 
 
-def without_drawing(unit, top):
+def without_drawing(changes):
     """13, what comes before it, and that it comes before 14 and 16"""
     for call in each(box(1, 3, 3), 0x31, 2, 1):
-        yield but(call, bitmaps__unit=unit, bitmaps__top=top)
-        yield but(call, bitmaps__unit=unit, bitmaps__top=top, bitmaps__size=0)
-        yield but(call, bitmaps__unit=unit, bitmaps__top=top, bitmaps__count=1)
-        yield but(call, bitmaps__unit=unit, bitmaps__top=top, bitmaps__count=1, stride=0)
+        for more in ({}, {"bitmaps__size": 0}, {"bitmaps__count": 1}, {"bitmaps__count": 1, "stride": 0}):
+            yield but(call, **changes, **more)
 
 
 def refusals():
     """of the digits, each number for each call that has it, and of two at once the one that comes first"""
-    for unit, top in ((1, True), (2, True), (3, True), (0, False), (1, False)):
-        yield from (call for call in without_drawing(unit, top)
+    for changes in ({"bitmaps__unit": 1}, {"bitmaps__unit": 3, "bitmaps__pad": 8},
+                    {"bitmaps__unit": 2, "bitmaps__pad": 2, "bitmaps__top": False}):
+        yield from (call for call in without_drawing(changes)
                     if call["call"] != "show_glyph" or call["stride"] > 0)
     calls = [call for call in each(box(1, 3, 3), 0x31, 8, 1) if call["call"] not in ("prep_char", "show_glyph")]
     for call in calls:

@@ -119,7 +119,8 @@ def refused():
 
 def without_drawing():
     """13 at the first glyph that has a bitmap"""
-    for changes in ({"bitmaps__unit": 1}, {"bitmaps__top": False}, {"bitmaps__unit": 3, "bitmaps__top": False}):
+    for changes in ({"bitmaps__unit": 1}, {"bitmaps__unit": 2, "bitmaps__pad": 2},
+                    {"bitmaps__unit": 3, "bitmaps__top": False, "bitmaps__pad": 8}):
         for content in (b"", b"A", b"J", b"JA", b"J\r\nMA", b"C", b"JC", b"D", b"JL", b"LJ", b"JN", b"KA", b"A\x80"):
             yield but(text(content, 320, 20), **changes)
             yield but(text(content, 0, 1), **changes)
