@@ -8,7 +8,11 @@ from command.script import SCRIPT, expect, run, store
 from common import fail
 from dump import make
 from panel import expected as panel
+from pcf import orders
 from pcf.font_f import two_digits
+from pcf.rewriting import reordered
+
+IN_ROWS_OF_4 = [form for form in orders.ORDERS if form & 3 == 2]
 
 
 def dump_of(font):
@@ -17,9 +21,9 @@ def dump_of(font):
 
 def good(folder):
     f = two_digits()
-    frames = dump_of(f)
+    of_f = dump_of(f)
 
-    def same(what, got):
+    def same(what, got, frames=of_f):
         expect(what, got, 0, frames, None)
 
     os.mkdir(os.path.join(folder, "a folder"))
@@ -36,23 +40,26 @@ def good(folder):
     same("as long as may be", run("dump", store(folder, "full.pcf", full), folder=folder))
     same("compressed, as long as may be", run("dump", store(folder, "full.pcf.gz", gzip.compress(full)), folder=folder))
     own = panel.meter.stored_font()
-    got = run("dump", store(folder, "meter.pcf", own), folder=folder)
-    expect("the meter's font", got, 0, dump_of(own), None)
+    of_own = dump_of(own)
+    same("the meter's font", run("dump", store(folder, "meter.pcf", own), folder=folder), of_own)
+    for form in IN_ROWS_OF_4:
+        name = store(folder, orders.told(form) + ".pcf", reordered(own, form))
+        same("the meter's font, " + name, run("dump", name, folder=folder), of_own)
 
 
 def made_fonts(folder):
-    """the first font that each refusal has, and fonts that are not refused"""
+    """of each line that refuses, a number and a place, the first font that has it; and fonts that are not refused"""
     seen = set()
     for name, font in make.font_files().items():
-        kind = name[:10] if name.startswith("refused_") else name
-        if kind in seen:
-            continue
-        seen.add(kind)
         output = dump_of(font)
+        refused = output.startswith(b"refused ")
+        if output in seen:
+            continue
         got = run("dump", store(folder, name, font), folder=folder)
-        if kind == name:
+        if not refused:
             expect(name, got, 0, output, None)
         else:
+            seen.add(output)
             expect(name, got, 1, output, name + " is refused: ")
             if b"as the dump takes it" in got.stderr:
                 fail("%s: no words for this refusal" % name)

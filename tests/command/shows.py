@@ -2,7 +2,9 @@
 from command.script import expect, run, store
 from common import fail
 from panel import expected as panel
+from pcf import orders
 from pcf.font_f import two_digits
+from pcf.rewriting import reordered
 
 MOST_SHOWN = 573440  # the bytes that a font may have to show a text
 
@@ -68,5 +70,9 @@ def shown(folder):
     same("a compressed font", ["--font=f.pcf.gz", *small], "01", 6, 3, 1, None, f)
     same("a font's name with spaces", ["--font", "a folder/two  digits.pcf", *small], "01", 6, 3, 1, None, f)
     same("a font's name like an option", ["--font", "-v", *small], "01", 6, 3, 1, None, f)
+    for form in orders.ORDERS:
+        if orders.unit_bytes(form) == 4 or not form & 3:
+            name = store(folder, "in_order.pcf", reordered(own, form))
+            same("the meter's font, " + orders.told(form), ["--font", name, both], both)
     full = f + bytes(MOST_SHOWN - len(f))
     same("a font as long as may be", ["--font", store(folder, "wide.pcf", full), *small], "01", 6, 3, 1, None, f)

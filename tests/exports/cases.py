@@ -1,4 +1,6 @@
 """Calls of the exported functions, and what the model of document 01 answers to each."""
+import random
+
 import model
 from dump import make as dump
 from exports import layouts
@@ -6,6 +8,7 @@ from fonts import make as fonts
 from pcf import tables
 from pcf.font_f import THREE, two_digits
 from pcf.numbers import BIG, TOP
+from pcf.rewriting import with_bytes
 from replay import calls, expected
 from replay import make as replay
 
@@ -236,6 +239,26 @@ def empty():
         yield call("thk_utf8_step", text=b"", start=i)
 
 
+def orders_by_lot():
+    """fonts whose rows have any order, half of them with a byte changed: vetted, drawn from and unpacked"""
+    for seed in range(1000, 1120):
+        rng, b = random.Random(seed), dump.by_lot(seed)
+        if rng.randrange(2):
+            b = with_bytes(b, rng.randrange(8, len(b)), rng.randbytes(1))
+        yield call("thk_load", b)
+        yield call("thk_vet", b)
+        try:
+            rec = model.load(b)
+        except model.Refused:
+            continue
+        where = {"start": 0, "stride": rng.choice((8, 17, 48)), "scale": 1, "colour": 5}
+        for glyph in range(5):
+            box = {"glyph": glyph, "width": rng.randrange(42), "height": rng.randrange(4)}
+            yield call("thk_draw_bitmap", b, rec, buf=[7] * rng.randrange(200), **box, **where)
+            yield call("thk_unpack_glyph", b, rec, buf=[7] * rng.randrange(200), **box, **where)
+        yield call("thk_draw_string", b, rec, b"abcd", [7] * rng.randrange(100, 900), wrap=LAST, **where)
+
+
 def all_calls():
-    for group in (read, wrong_records, empty, drawn):
+    for group in (read, wrong_records, empty, orders_by_lot, drawn):
         yield from group()

@@ -3,10 +3,10 @@
 use crate::asked::{Call, Function, Function::*};
 use crate::departures::{self as departing, Departure, Sight};
 use crate::reading::{self, rows_drawn, Drawing};
-use crate::sides::{caught, of_metrics, our, their, untouched, Aligned, Kind, Our, Pair, Their, Theirs, Values};
+use crate::sides::{caught, of_metrics, our, their, untouched, Aligned, Given, Kind, Our, Pair, Their, Theirs, Values};
 use crate::structs::Record;
 use crate::tally::Tally;
-use crate::{texts, twins, utf8, vetting};
+use crate::{calls, texts, twins, utf8, vetting};
 
 /// what is wrong
 pub type Verdict = Result<(), String>;
@@ -113,7 +113,7 @@ pub fn call(pair: &Pair, call: &Call, tally: &mut Tally) -> Verdict {
             let pads = call.stride * call.scale * call.pad_top + call.scale * call.pad_left;
             asked.drawing(asked.given(call.start + pads), tally)
         }
-        UnpackGlyph => asked.unpacking(),
+        UnpackGlyph => asked.unpacking(tally),
         Property => {
             same(call.function, &their, &our)?;
             let number = if call.number < pair.rec.props.count { 18 } else { 17 };
@@ -292,12 +292,34 @@ impl Asked<'_> {
         hold(self.their.kind != Kind::Stopped || self.our.refusal == number(), "a drawing's refusal is another one")
     }
 
-    fn unpacking(&self) -> Verdict {
-        self.same()?;
+    fn unpacking(&self, tally: &mut Tally) -> Verdict {
         let d = self.given(0);
         let rows = if reading::has_bitmap(self.rec(), d.glyph) { d.height } else { 0 };
         hold(self.our.refusal != 0 || self.our.rows == [rows as u64, 0], "the rows are not those asked for")?;
+        if departing::other_order(self.pair, d.glyph) {
+            return self.in_other_order(&d, rows, tally);
+        }
+        self.same()?;
         self.number(&d, rows)
+    }
+
+    /// Rows that the port alone draws: 000 does not return. Given them in the usual order it answers as the port does,
+    /// where the data suffice.
+    fn in_other_order(&self, d: &Drawing, rows: usize, tally: &mut Tally) -> Verdict {
+        let lacks = reading::lacks_data(self.pair.ours, self.rec(), d, rows);
+        if self.pair.given != Given::UsualRows {
+            tally.used(Departure::OtherOrder);
+            undrawn(self.their)?;
+        }
+        if lacks {
+            return refused(self.our, 14, 0);
+        }
+        if self.pair.given != Given::UsualRows {
+            return hold(matches!(self.our.refusal, 0 | 16), "a number that this refusal cannot have");
+        }
+        self.same()?;
+        self.number(d, rows)?;
+        as_in_usual_rows(self.pair, self.call, self.our, tally)
     }
 
     fn drawing(&self, d: Drawing, tally: &mut Tally) -> Verdict {
@@ -306,6 +328,9 @@ impl Asked<'_> {
         let height = if reading::has_bitmap(self.rec(), d.glyph) { d.height } else { 0 };
         let rows = [drawn as u64, (height - drawn) as u64];
         hold(self.our.refusal != 0 || self.our.rows == rows, "the rows are not those that fit")?;
+        if departing::other_order(self.pair, d.glyph) {
+            return self.in_other_order(&d, drawn, tally);
+        }
         match departing::byte_past_drawn(self.pair, &d, len, stride, scale) {
             None => {
                 self.same()?;
@@ -321,6 +346,20 @@ impl Asked<'_> {
             }
         }
     }
+}
+
+/// 000 does not return, and has coloured nothing, where rows are in another order than its own
+pub fn undrawn(their: &Their) -> Verdict {
+    hold(their.kind == Kind::Stopped && untouched(&their.page), "000 draws rows in another order")
+}
+
+/// The port answers for the twin in the usual order, which 000 was given, what it answers for the font itself. Not so
+/// where metrics of 12 bytes are where 000 looks for them.
+pub fn as_in_usual_rows(pair: &Pair, call: &Call, our_: &Our, tally: &mut Tally) -> Verdict {
+    tally.in_usual_rows(!untouched(&our_.page));
+    let rec = calls::load(pair.theirs.data).rec;
+    let same = !rec.metrics.compressed || our(pair.theirs.data, rec, call) == *our_;
+    hold(same, "the port answers otherwise for the same rows in the usual order")
 }
 
 /// 000's answer with so many more bytes after the bitmaps, or None if they are too many

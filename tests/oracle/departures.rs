@@ -1,5 +1,6 @@
 //! Where 000 and the port may differ: one predicate for each way. A predicate looks at the font and the arguments, not
 //! at the answers; compare.rs and texts.rs say what has to hold where it applies.
+use crate::orders;
 use crate::reading::{self, has_bitmap, last_bytes, rows_drawn, u16_at, u32_at, Drawing, Slot};
 use crate::sides::Pair;
 use crate::structs::{Metrics, Record};
@@ -18,13 +19,14 @@ pub enum Departure {
     BoundsOutside,
     MetricsOutside,
     BelowFirst,
+    OtherOrder,
     ShortCompressed,
     Unaligned,
 }
 use Departure::*;
 
 /// with the number in docs/DIFFERENCES.md, or a dash for what it says in words
-pub const DEPARTURES: [(Departure, &str); 14] = [
+pub const DEPARTURES: [(Departure, &str); 15] = [
     (HalfUnseen, "1 a code in the half of the table that 000 does not see"),
     (OddCount, "1 an odd number of entries, over which 000 panics"),
     (ShortCodes, "1 a code table with room for half of its entries, which 000 loads"),
@@ -37,6 +39,7 @@ pub const DEPARTURES: [(Departure, &str); 14] = [
     (BoundsOutside, "- bounds that refusal 11 refuses"),
     (MetricsOutside, "- metrics that refusal 11 refuses"),
     (BelowFirst, "- a text with a code below the table's first"),
+    (OtherOrder, "- rows in an order that 000 does not draw"),
     (ShortCompressed, "- compressed metrics without a record in 6 or 7 bytes"),
     (Unaligned, "- a known table that is not on a multiple of 4"),
 ];
@@ -159,7 +162,7 @@ pub fn sight(pair: &Pair, code: u32) -> Sight {
         Slot::Outside => return Sight::AsThePort,
         Slot::At(slot) => slot,
     };
-    let seen = pair.twin || slot < reading::entries(&pair.rec) / 2;
+    let seen = pair.twin() || slot < reading::entries(&pair.rec) / 2;
     match (reading::entry(pair.ours, &pair.rec, slot).is_some(), seen, folded) {
         (true, true, true) => Sight::Folded,
         (true, false, false) => Sight::Unseen,
@@ -171,7 +174,7 @@ pub fn sight(pair: &Pair, code: u32) -> Sight {
 
 /// a twin's have been moved
 pub fn from_six(pair: &Pair, glyph: u16) -> bool {
-    !pair.twin && !pair.rec.metrics.compressed && u32::from(glyph) < pair.rec.metrics.count
+    !pair.twin() && !pair.rec.metrics.compressed && u32::from(glyph) < pair.rec.metrics.count
 }
 
 pub fn bounds_outside(pair: &Pair) -> bool {
@@ -184,11 +187,16 @@ pub fn metrics_outside(pair: &Pair, m: &Metrics) -> bool {
 
 // ---- bitmaps
 
+/// whether the port draws the glyph's rows, and 000 would not, if it was given them as they are
+pub fn other_order(pair: &Pair, glyph: u16) -> bool {
+    orders::other(&pair.rec) && has_bitmap(&pair.rec, glyph)
+}
+
 /// Whether 000 asserts a byte past a row of whole bytes that is not there, though every needed byte is: how many bytes
 /// more it wants.
 pub fn byte_past(pair: &Pair, d: &Drawing, rows: usize) -> Option<u64> {
     let bitmaps = &pair.rec.bitmaps;
-    if rows == 0 || d.width % 8 != 0 || !has_bitmap(&pair.rec, d.glyph) || bitmaps.unit != 0 || !bitmaps.top {
+    if rows == 0 || d.width % 8 != 0 || !has_bitmap(&pair.rec, d.glyph) || !orders::usual(&pair.rec) {
         return None;
     }
     let (needed, asserted) = last_bytes(pair.ours, &pair.rec, d, rows);

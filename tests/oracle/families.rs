@@ -3,23 +3,23 @@ use crate::asked::{Call, Function::*};
 use crate::compare::{self, Verdict};
 use crate::fonts::{self, F};
 use crate::random::Random;
-use crate::sides::Pair;
+use crate::sides::{Given, Pair};
 use crate::tally::Tally;
-use crate::{calls, damage, listed, loading, questions, random_fonts, reading, smallest, twins, utf8, words};
+use crate::{calls, damage, listed, loading, orders, questions, random_fonts, reading, smallest, twins, utf8, words};
 use std::process::exit;
 
 /// the calls that a font is asked
 type Questions<'a> = &'a mut dyn FnMut(&Pair) -> Vec<Call>;
 
-/// One font and its twin, with all calls; a difference ends the program.
-fn try_font(bytes: &[u8], tally: &mut Tally, direct: bool, twin: bool, questions: Questions) {
-    for (is_twin, wanted) in [(false, direct), (true, twin)] {
-        if !wanted {
+/// One font and its twins, with all calls; a difference ends the program.
+fn try_font(bytes: &[u8], tally: &mut Tally, twin: bool, questions: Questions) {
+    for given in [Given::Itself, Given::Twin, Given::UsualRows] {
+        if given == Given::Twin && !twin {
             continue;
         }
         let mut at = Call::new(Load, 0);
         let mut ask = |pair: &Pair, tally: &mut Tally| -> Verdict {
-            let vetting = if is_twin { Some(Call::new(Vet, 0)) } else { None };
+            let vetting = if pair.twin() { Some(Call::new(Vet, 0)) } else { None };
             for call in questions(pair).into_iter().chain(vetting) {
                 if let Err(said) = compare::call(pair, &call, tally) {
                     at = call;
@@ -28,13 +28,9 @@ fn try_font(bytes: &[u8], tally: &mut Tally, direct: bool, twin: bool, questions
             }
             Ok(())
         };
-        let verdict = match is_twin {
-            false => loading::both(bytes, tally, &mut ask),
-            true => loading::with_twin(bytes, tally, &mut ask),
-        };
-        if let Err(said) = verdict {
-            let (bytes, call) = smallest::smallest(bytes, &at, is_twin, &said);
-            words::difference(&bytes, &call, is_twin, &said);
+        if let Err(said) = loading::given(given, bytes, tally, &mut ask) {
+            let (bytes, call) = smallest::smallest(bytes, &at, given, &said);
+            words::difference(&bytes, &call, given, &said);
             exit(1);
         }
     }
@@ -73,7 +69,7 @@ pub fn changes_of_f(tally: &mut Tally) {
         for value in (0..=255).filter(|&value| value != F[at]) {
             let mut bytes = F.to_vec();
             bytes[at] = value;
-            try_font(&bytes, tally, true, value % 3 == 0, &mut few_calls);
+            try_font(&bytes, tally, value % 3 == 0, &mut few_calls);
         }
     }
     tally.family("F with one byte changed");
@@ -81,17 +77,17 @@ pub fn changes_of_f(tally: &mut Tally) {
 
 pub fn lengths_of_f(tally: &mut Tally) {
     for len in 0..=F.len() {
-        try_font(&F[..len], tally, true, true, &mut few_calls);
+        try_font(&F[..len], tally, true, &mut few_calls);
     }
     for more in 1..=64 {
         for value in [0, 0xFF] {
             let mut bytes = F.to_vec();
             bytes.resize(F.len() + more, value);
-            try_font(&bytes, tally, true, true, &mut few_calls);
+            try_font(&bytes, tally, true, &mut few_calls);
         }
     }
     for more in 55..=62 {
-        try_font(&fonts::more_entries(more), tally, true, true, &mut few_calls);
+        try_font(&fonts::more_entries(more), tally, true, &mut few_calls);
     }
     tally.family("F cut at every length, F with bytes and directory entries added");
 }
@@ -110,7 +106,7 @@ pub fn all_of_f(tally: &mut Tally, random: &mut Random) {
         made.extend(long_texts("01"));
         made
     };
-    try_font(F, tally, true, true, &mut ask);
+    try_font(F, tally, true, &mut ask);
     tally.family("F, all codes, arguments around every limit, texts");
 }
 
@@ -150,7 +146,7 @@ fn random_font(tally: &mut Tally, random: &mut Random, damage: bool) {
         }
         made
     };
-    try_font(&bytes, tally, true, true, &mut ask);
+    try_font(&bytes, tally, true, &mut ask);
 }
 
 pub fn random_fonts(tally: &mut Tally, random: &mut Random, count: usize) {
@@ -183,7 +179,7 @@ pub fn not_only_utf8(tally: &mut Tally, random: &mut Random) {
     }
     all.push([&[b'0'; 65_535][..], b"\xFF"].concat());
     let texts = || all.iter().map(|text| Call { text: text.clone(), ..Call::text("", None).on(9, 0, 3, 1) });
-    try_font(F, tally, true, false, &mut |_| texts().collect());
+    try_font(F, tally, false, &mut |_| texts().collect());
     tally.family("UTF-8 and what is not");
 }
 
@@ -191,14 +187,14 @@ pub fn not_only_utf8(tally: &mut Tally, random: &mut Random) {
 fn real_font(bytes: &[u8], tally: &mut Tally, random: &mut Random) {
     let loaded = calls::load(bytes);
     assert_eq!(loaded.refusal, 0, "a real font");
-    try_font(bytes, tally, true, false, &mut |pair| {
+    try_font(bytes, tally, false, &mut |pair| {
         let mut made = questions::tables(pair, 40);
         made.extend(questions::codes(pair).iter().map(|&c| Call::new(Glyph, c as u32)));
         made
     });
     let Some(twin) = twins::twin(bytes, &loaded.rec) else { return tally.not_compared("the font has no twin") };
     let mut both = Vec::new();
-    try_font(&twin, tally, true, false, &mut |pair| {
+    try_font(&twin, tally, false, &mut |pair| {
         both = twins::extended(pair.theirs, &pair.fields, 1);
         Vec::new()
     });
@@ -225,22 +221,49 @@ fn real_font(bytes: &[u8], tally: &mut Tally, random: &mut Random) {
         }
         made
     };
-    try_font(&both, tally, true, false, &mut ask);
+    try_font(&both, tally, false, &mut ask);
+}
+
+/// a real font with its rows in another order, for the port; 000 has them in the usual one
+fn real_font_in_order(bytes: &[u8], turn: usize, tally: &mut Tally, random: &mut Random) {
+    let rec = calls::load(bytes).rec;
+    let others = orders::others(rec.bitmaps.pad);
+    let table = orders::in_order(bytes, &rec, others[turn % others.len()]);
+    let Some(made) = twins::with_bitmaps(bytes, &rec, table) else { return tally.not_compared("the font has no twin") };
+    let mut ask = |pair: &Pair| {
+        let has_glyph = |&c: &char| reading::glyph(pair.ours, &pair.rec, c as u32).is_some();
+        let found: Vec<char> = questions::all_codes().filter(has_glyph).collect();
+        let mut made = Vec::new();
+        for scale in [1, 1, 2, 3] {
+            for _ in 0..10 {
+                let code = random.pick(&found) as u32;
+                made.push(Call::new(DrawChar, code).on(60 * scale * 50 * scale, 3, 60 * scale, scale));
+            }
+            let text = questions::random_text(random, &found, 24);
+            made.push(Call::text(&text, Some(120 * scale as u64 + 1)).on(120 * scale * 150, 0, 120 * scale, scale));
+        }
+        for _ in 0..10 {
+            made.extend(questions::draws(pair, random, &found));
+        }
+        made
+    };
+    try_font(&made, tally, false, &mut ask);
 }
 
 pub fn real_fonts(folder: &str, tally: &mut Tally, random: &mut Random) {
     let files = std::fs::read_dir(folder).expect("the folder with fonts").flatten();
     let mut paths: Vec<_> = files.map(|file| file.path()).collect();
     paths.sort();
-    for path in &paths {
-        real_font(&std::fs::read(path).expect("a font file"), tally, random);
-    }
-    tally.family(&format!("{} real fonts", paths.len()));
+    let fonts: Vec<Vec<u8>> = paths.iter().map(|path| std::fs::read(path).expect("a font file")).collect();
+    fonts.iter().for_each(|font| real_font(font, tally, random));
+    tally.family(&format!("{} real fonts", fonts.len()));
+    fonts.iter().enumerate().for_each(|(turn, font)| real_font_in_order(font, turn, tally, random));
+    tally.family(&format!("{} real fonts, their rows in other orders by turns", fonts.len()));
 }
 
 pub fn listed_inputs(tally: &mut Tally) {
     for one in listed::all() {
-        try_font(&listed::bytes_of(one.font), tally, true, true, &mut |_| match one.call.function {
+        try_font(&listed::bytes_of(one.font), tally, true, &mut |_| match one.call.function {
             Load => Vec::new(),
             _ => vec![one.call.clone()],
         });

@@ -3,17 +3,17 @@ use crate::asked::Function::Load;
 use crate::compare::{hold, wrong, Verdict};
 use crate::departures::{self as departing, Departure};
 use crate::reading;
-use crate::sides::{caught, Aligned, Askew, Kind, Pair, Theirs};
+use crate::sides::{caught, Aligned, Askew, Given, Kind, Pair, Theirs};
 use crate::structs::Accelerators;
 use crate::tally::Tally;
-use crate::{calls, twins};
+use crate::{calls, orders, twins};
 use original::plain;
 
 /// what is done with a pair
 pub type Then<'a> = &'a mut dyn FnMut(&Pair, &mut Tally) -> Verdict;
 
 /// Loads a font on both sides; where both do, the pair is used further.
-pub fn both(bytes: &[u8], tally: &mut Tally, then: Then) -> Verdict {
+fn both(bytes: &[u8], tally: &mut Tally, then: Then) -> Verdict {
     tally.fonts += 1;
     let aligned = Aligned::new(bytes);
     let their = caught(|| original::load_pcf(aligned.bytes()));
@@ -50,7 +50,7 @@ pub fn both(bytes: &[u8], tally: &mut Tally, then: Then) -> Verdict {
         (Some(Ok(font)), 0) => {
             let theirs = Theirs { data: aligned.bytes(), font: &font };
             let fields = plain::fields(&font, aligned.bytes());
-            let pair = Pair { theirs, fields, ours: askew.bytes(), rec: our.rec, twin: false };
+            let pair = Pair { theirs, fields, ours: askew.bytes(), rec: our.rec, given: Given::Itself };
             hold(our.place == 0, "a place without a refusal")?;
             same_fields(&pair, tally)?;
             then(&pair, tally)
@@ -62,13 +62,22 @@ pub fn both(bytes: &[u8], tally: &mut Tally, then: Then) -> Verdict {
     }
 }
 
-/// The twin of a font that the port loads: 000 has to load it too.
-pub fn with_twin(bytes: &[u8], tally: &mut Tally, then: Then) -> Verdict {
+/// A font of which 000 is given this.
+pub fn given(given: Given, bytes: &[u8], tally: &mut Tally, then: Then) -> Verdict {
+    match given {
+        Given::Itself => both(bytes, tally, then),
+        _ => with_twin(given, bytes, tally, then),
+    }
+}
+
+/// The twin of a font that the port loads: 000 has to load it too. One with the rows in the usual order there is where
+/// the font has another one that the port draws.
+fn with_twin(given: Given, bytes: &[u8], tally: &mut Tally, then: Then) -> Verdict {
     let our = calls::load(bytes);
-    if our.refusal != 0 {
+    if our.refusal != 0 || given == Given::UsualRows && !orders::other(&our.rec) {
         return Ok(());
     }
-    let Some(made) = twins::twin(bytes, &our.rec) else {
+    let Some(made) = twins::given(given, bytes, &our.rec) else {
         tally.not_compared("the font has no twin");
         return Ok(());
     };
@@ -82,7 +91,7 @@ pub fn with_twin(bytes: &[u8], tally: &mut Tally, then: Then) -> Verdict {
     tally.called(Load, Kind::Returned);
     let theirs = Theirs { data: aligned.bytes(), font: &font };
     let fields = plain::fields(&font, aligned.bytes());
-    let pair = Pair { theirs, fields, ours: bytes, rec: our.rec, twin: true };
+    let pair = Pair { theirs, fields, ours: bytes, rec: our.rec, given };
     same_fields(&pair, tally)?;
     then(&pair, tally)
 }
@@ -93,23 +102,27 @@ fn same_fields(pair: &Pair, tally: &mut Tally) -> Verdict {
         tally.used(Departure::UnitShift);
     }
     let in_place =
-        |table: &plain::Table, at: usize, data: usize| pair.twin || table.at == at && table.data.start == data;
+        |table: &plain::Table, at: usize, data: usize| pair.twin() || table.at == at && table.data.start == data;
     let sized = |table: &plain::Table, big: bool, count: u32, size: usize| {
         table.big == big && table.count == count as usize && table.data.len == size
     };
     hold(sized(&t.props, o.props.big, o.props.count, o.props.size), "properties differ")?;
     hold(in_place(&t.props, o.props.records, o.props.strings), "the properties' places differ")?;
-    hold(sized(&t.bitmaps, o.bitmaps.big, o.bitmaps.count, o.bitmaps.size), "bitmaps differ")?;
+    let (size, in_usual_rows) = (o.bitmaps.size, pair.given == Given::UsualRows);
+    let size = if in_usual_rows { t.bitmaps.data.len } else { size };
+    hold(sized(&t.bitmaps, o.bitmaps.big, o.bitmaps.count, size), "bitmaps differ")?;
     hold(in_place(&t.bitmaps, o.bitmaps.offsets, o.bitmaps.bits), "the bitmaps' places differ")?;
     hold(sized(&t.names, o.names.big, o.names.count, o.names.size), "names differ")?;
     hold(in_place(&t.names, o.names.offsets, o.names.strings), "the names' places differ")?;
     hold(1 << t.pad_mode == o.bitmaps.pad, "the row pad differs")?;
-    hold(t.size_mode == 2 * o.bitmaps.unit, "000's scan unit is not twice the port's")?;
-    hold(t.least_bit_first == o.bitmaps.top, "the bit order differs")?;
+    if !in_usual_rows {
+        hold(t.size_mode == 2 * o.bitmaps.unit, "000's scan unit is not twice the port's")?;
+        hold(t.least_bit_first == o.bitmaps.top, "the bit order differs")?;
+    }
     same_codes(pair)?;
     let (m, of) = (&t.metrics, &o.metrics);
     hold(m.count == of.count as usize, "the metrics' count differs")?;
-    if !pair.twin {
+    if !pair.twin() {
         hold(m.compressed == of.compressed, "compression differs")?;
         hold(m.at + if of.compressed { 0 } else { 2 } == of.records, "the metrics' place differs")?;
         hold(m.big.map_or(of.compressed, |big| big == of.big), "the metrics' byte order differs")?;
@@ -126,7 +139,7 @@ fn same_codes(pair: &Pair) -> Verdict {
     let default = reading::u16_at(pair.ours, o.entries - 2, o.big);
     hold(o.default_code == default, "the default code, which 000 does not keep, is not the table's")?;
     hold(o.size as u64 == 2 * entries, "the port's entries have not two bytes each")?;
-    if pair.twin {
+    if pair.twin() {
         return hold(t.count as u64 == entries, "000 does not see all of the twin's entries");
     }
     hold((t.high2, t.high1) == (o.high2.into(), o.high1.into()), "the last codes differ")?;

@@ -16,6 +16,7 @@ mod families;
 mod fonts;
 mod listed;
 mod loading;
+mod orders;
 mod questions;
 mod random;
 mod random_fonts;
@@ -72,6 +73,10 @@ fn main() {
             println!("oracle: 000 returned from too few calls of {name}");
             exit(1);
         }
+    }
+    if tally.coloured_in_usual_rows() < 10_000 {
+        println!("oracle: too few drawings of rows in another order coloured pixels");
+        exit(1);
     }
     for name in tally.never_used() {
         println!("oracle: no input for departure {name}");

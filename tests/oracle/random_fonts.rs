@@ -94,8 +94,8 @@ fn random_accelerators(random: &mut Random, all: &[Metrics]) -> Table {
 fn random_bitmaps(random: &mut Random, all: &[Metrics]) -> Table {
     let pad = random.below(4) as u32;
     let mut form = form(random) | pad | TOP;
-    if random.once_in(12) {
-        form = random.pick(&[form & !TOP, form | 16, form | 32, form | 48]);
+    if random.once_in(4) {
+        form = form & !TOP | TOP * random.below(2) as u32 | random.pick(&[0, 0, 16, 16, 32, 32, 48]);
     }
     let (mut bits, mut offsets) = (random.bytes(2), Vec::new());
     for m in all {

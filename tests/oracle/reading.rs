@@ -1,5 +1,6 @@
 //! What stands in a font's bytes at the places of a record, read once more and apart from both sides: the predicates
 //! have to know it.
+use crate::orders;
 use crate::sides::Values;
 use crate::structs::{Metrics, Record};
 
@@ -135,7 +136,12 @@ pub fn last_bytes(b: &[u8], rec: &Record, d: &Drawing, rows: usize) -> (u64, u64
     let stride = d.width.div_ceil(8).next_multiple_of(rec.bitmaps.pad.into());
     let offset = u32_at(b, rec.bitmaps.offsets + 4 * usize::from(d.glyph), rec.bitmaps.big);
     let row = u64::from(offset) + (rows as u64 - 1) * stride as u64;
-    (if d.width == 0 { 0 } else { row + d.width.div_ceil(8) as u64 }, row + d.width as u64 / 8)
+    (if d.width == 0 { 0 } else { row + orders::needed(rec, d.width) }, row + d.width as u64 / 8)
+}
+
+/// whether so many rows of a glyph with a bitmap need a byte that is not there
+pub fn lacks_data(b: &[u8], rec: &Record, d: &Drawing, rows: usize) -> bool {
+    rows > 0 && last_bytes(b, rec, d, rows).0 > rec.bitmaps.size as u64
 }
 
 pub fn has_bitmap(rec: &Record, glyph: u16) -> bool {
@@ -144,12 +150,9 @@ pub fn has_bitmap(rec: &Record, glyph: u16) -> bool {
 
 /// the number with which a drawing of so many rows is refused that 000 does not return from
 pub fn number_of_drawing(b: &[u8], rec: &Record, d: &Drawing, rows: usize) -> u32 {
-    if rec.bitmaps.unit != 0 || !rec.bitmaps.top {
-        return 13;
-    }
-    if rows > 0 && last_bytes(b, rec, d, rows).0 > rec.bitmaps.size as u64 {
-        14
-    } else {
-        16
+    match (orders::refused(rec), lacks_data(b, rec, d, rows)) {
+        (true, _) => 13,
+        (_, true) => 14,
+        _ => 16,
     }
 }

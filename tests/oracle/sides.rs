@@ -85,13 +85,29 @@ pub struct Theirs<'a> {
     pub font: &'a LoadedPCF<'a>,
 }
 
-/// A font loaded by both. Where it is a twin, 000 was given other bytes, which it should read as the port reads these.
+/// what 000 was given of a font
+#[derive(Clone, Copy, Debug, PartialEq, Eq)]
+pub enum Given {
+    Itself,
+    /// other bytes, which it should read as the port reads the font's own
+    Twin,
+    /// a twin whose rows are in the order that 000 draws
+    UsualRows,
+}
+
+/// A font loaded by both.
 pub struct Pair<'a> {
     pub theirs: Theirs<'a>,
     pub fields: Fields,
     pub ours: &'a [u8],
     pub rec: Record,
-    pub twin: bool,
+    pub given: Given,
+}
+
+impl Pair<'_> {
+    pub fn twin(&self) -> bool {
+        self.given != Given::Itself
+    }
 }
 
 static ASKING: AtomicBool = AtomicBool::new(false);

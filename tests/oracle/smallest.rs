@@ -1,28 +1,25 @@
 //! Makes the input of a difference smaller as long as the difference stays the same.
 use crate::asked::{Call, Function::Load};
-use crate::sides::Pair;
+use crate::sides::{Given, Pair};
 use crate::tally::Tally;
 use crate::{compare, loading};
 use std::time::{Duration, Instant};
 
 /// what is wrong with one call on one font
-pub fn wrong(bytes: &[u8], call: &Call, twin: bool) -> Option<String> {
+pub fn wrong(bytes: &[u8], call: &Call, given: Given) -> Option<String> {
     let mut tally = Tally::default();
     let mut ask = |pair: &Pair, tally: &mut Tally| match call.function {
         Load => Ok(()),
         _ => compare::call(pair, call, tally),
     };
-    let verdict = match twin {
-        false => loading::both(bytes, &mut tally, &mut ask),
-        true => loading::with_twin(bytes, &mut tally, &mut ask),
-    };
-    verdict.err()
+    loading::given(given, bytes, &mut tally, &mut ask).err()
 }
 
-pub fn smallest(bytes: &[u8], call: &Call, twin: bool, said: &str) -> (Vec<u8>, Call) {
+pub fn smallest(bytes: &[u8], call: &Call, given: Given, said: &str) -> (Vec<u8>, Call) {
     let (mut bytes, mut call) = (bytes.to_vec(), call.clone());
     let until = Instant::now() + Duration::from_secs(20);
-    let still = |bytes: &[u8], call: &Call| Instant::now() < until && wrong(bytes, call, twin).as_deref() == Some(said);
+    let still =
+        |bytes: &[u8], call: &Call| Instant::now() < until && wrong(bytes, call, given).as_deref() == Some(said);
     loop {
         let old = (bytes.clone(), call.clone());
         shorten(&mut call, &mut |call| still(&bytes, call));

@@ -12,6 +12,8 @@ pub struct Tally {
     used: BTreeMap<usize, u64>,
     coloured: BTreeMap<usize, u64>,
     vetted: BTreeMap<u32, u64>,
+    /// drawings of rows in another order that 000 was given in the usual one, and those of them with pixels coloured
+    usual_rows: [u64; 2],
     /// without 000: refused 15
     pub outside: u64,
     /// without 000: refused 19, or stepped through as Rust's own decoder does
@@ -50,6 +52,16 @@ impl Tally {
         *self.not_compared.entry(why).or_default() += 1;
     }
 
+    pub fn in_usual_rows(&mut self, coloured: bool) {
+        self.usual_rows[0] += 1;
+        self.usual_rows[1] += u64::from(coloured);
+    }
+
+    /// how many of them coloured pixels
+    pub fn coloured_in_usual_rows(&self) -> u64 {
+        self.usual_rows[1]
+    }
+
     /// ends a family: what was counted since the last one
     pub fn family(&mut self, name: &str) {
         let (fonts, calls) = self.families.iter().fold((0, 0), |(f, c), (_, fonts, calls)| (f + fonts, c + calls));
@@ -75,6 +87,8 @@ impl Tally {
         for (departure, name) in DEPARTURES {
             println!("departure {name}: {}", self.used.get(&(departure as usize)).unwrap_or(&0));
         }
+        let [all, coloured] = self.usual_rows;
+        println!("rows in another order, given to 000 in the usual one: {all} drawings agree ({coloured} with pixels)");
         for (why, count) in &self.not_compared {
             println!("not compared, because {why}: {count}");
         }

@@ -1,10 +1,10 @@
 //! Compares the drawing of texts.
 use crate::asked::{Call, Function::DrawString};
 use crate::calls;
-use crate::compare::{hold, same, with_more, wrong, Verdict};
+use crate::compare::{as_in_usual_rows, hold, same, undrawn, with_more, wrong, Verdict};
 use crate::departures::{self as departing, Departure, Sight};
 use crate::reading::{self, rows_drawn, Drawing};
-use crate::sides::{our, their, untouched, Kind, Our, Pair, Their};
+use crate::sides::{our, their, untouched, Given, Kind, Our, Pair, Their};
 use crate::tally::Tally;
 
 fn characters(call: &Call) -> impl Iterator<Item = (usize, char)> + '_ {
@@ -158,6 +158,18 @@ fn plainly(pair: &Pair, call: &Call, their_: &Their, our_: &Our, tally: &mut Tal
     let rows = |d: &Drawing| rows_drawn(d, call.len, call.stride, call.scale);
     let dropped: usize = walk.drawn.iter().filter(has_bitmap).map(|d| d.height - rows(d)).sum();
     hold(our_.refusal != 0 || our_.rows == [0, dropped as u64], "the dropped rows are not those that do not fit")?;
+    let other = |d: &Drawing| departing::other_order(pair, d.glyph);
+    if pair.given != Given::UsualRows && walk.drawn.iter().any(other) {
+        tally.used(Departure::OtherOrder);
+        return undrawn(their_);
+    }
+    let lacks = |d: &Drawing| other(d) && reading::lacks_data(pair.ours, &pair.rec, d, rows(d));
+    if let Some(k) = walk.drawn.iter().position(lacks) {
+        return up_to(pair, call, walk.places[k], 14, their_, our_, tally);
+    }
+    if walk.drawn.iter().any(other) {
+        as_in_usual_rows(pair, call, our_, tally)?;
+    }
     match walk.drawn.iter().filter_map(|d| departing::byte_past(pair, d, rows(d))).max() {
         None => {
             same(DrawString, their_, our_)?;
@@ -188,7 +200,8 @@ fn plainly(pair: &Pair, call: &Call, their_: &Their, our_: &Our, tally: &mut Tal
     }
 }
 
-/// a text with a character that the port refuses for its metrics: those before it decide
+/// a text with a character that the port refuses for its metrics, or of which 000 was given rows that the font has not:
+/// those before it decide
 fn up_to(
     pair: &Pair,
     call: &Call,

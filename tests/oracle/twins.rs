@@ -1,7 +1,8 @@
 //! Twins: a font rewritten so that 000 should read in it what the port reads in the font itself.
 use crate::fonts::{accelerators, font, four, narrow_metrics, two, word, Table, BIG, COMPRESSED};
+use crate::orders;
 use crate::reading::{entries, is_char_mode, metrics};
-use crate::sides::Theirs;
+use crate::sides::{Given, Theirs};
 use crate::structs::{Metrics, Record};
 use original::plain::Fields;
 
@@ -59,8 +60,22 @@ fn padded(mut bytes: Vec<u8>) -> Vec<u8> {
     bytes
 }
 
+/// what 000 is given of a font: None where there is no such twin, or where that is the font itself
+pub fn given(given: Given, b: &[u8], rec: &Record) -> Option<Vec<u8>> {
+    match given {
+        Given::Itself => None,
+        Given::Twin => twin(b, rec),
+        Given::UsualRows => with_bitmaps(b, rec, orders::in_usual_order(b, rec)),
+    }
+}
+
 /// None where there is no such font
 pub fn twin(b: &[u8], rec: &Record) -> Option<Vec<u8>> {
+    let (from, to) = (rec.bitmaps.offsets - 8, rec.bitmaps.bits + rec.bitmaps.size);
+    with_bitmaps(b, rec, Table { kind: 8, form: 0, bytes: b[from..to].to_vec() })
+}
+
+pub fn with_bitmaps(b: &[u8], rec: &Record, bitmaps: Table) -> Option<Vec<u8>> {
     let a = &rec.accel;
     let flags = [
         a.no_overlap,
@@ -78,7 +93,7 @@ pub fn twin(b: &[u8], rec: &Record) -> Option<Vec<u8>> {
         copied(1, rec.props.records, rec.props.strings + rec.props.size),
         accelerators(2, a.format, flags, three, &a.minbounds, &a.maxbounds),
         moved_metrics(b, rec)?,
-        copied(8, rec.bitmaps.offsets, rec.bitmaps.bits + rec.bitmaps.size),
+        bitmaps,
         doubled_codes(b, rec)?,
         copied(128, rec.names.offsets, rec.names.strings + rec.names.size),
     ];

@@ -4,15 +4,16 @@ use crate::asked::{Call, Function::*};
 use crate::calls;
 use crate::compare::{hold, Verdict};
 use crate::departures;
+use crate::orders;
 use crate::reading::{self, Drawing, Slot};
-use crate::sides::{their, Kind, Pair};
+use crate::sides::{their, Given, Kind, Pair};
 use crate::tally::Tally;
 
 const MOST_PIXELS: usize = 1 << 20;
 
 /// the refusal's number and place, 0 and 0 where the font passes; None where it takes too large a page to tell
 fn expected(pair: &Pair) -> Option<(u32, usize)> {
-    if pair.fields.size_mode != 0 || !pair.fields.least_bit_first {
+    if orders::refused(&pair.rec) {
         return Some((13, 0));
     }
     let ask = |function, number| their(pair.theirs, &Call::new(function, number));
@@ -55,10 +56,13 @@ fn of_character(pair: &Pair, code: u32, glyph: u16) -> Option<u32> {
         return None;
     }
     let call = Call::new(DrawBitmap, glyph.into()).boxed(width, height, 0, 0).on(stride * height, 0, stride, 1);
+    let drawing = Drawing { glyph, width, height, at: 0 };
     match their(pair.theirs, &call).kind {
         Kind::Nothing => return Some(12),
+        _ if orders::other(&pair.rec) && reading::lacks_data(pair.ours, &pair.rec, &drawing, height) => {
+            return Some(14)
+        }
         Kind::Stopped => {
-            let drawing = Drawing { glyph, width, height, at: 0 };
             if departures::byte_past(pair, &drawing, height).is_none() {
                 return Some(14);
             }
@@ -73,6 +77,9 @@ fn of_character(pair: &Pair, code: u32, glyph: u16) -> Option<u32> {
 }
 
 pub fn compare(pair: &Pair, tally: &mut Tally) -> Verdict {
+    if orders::other(&pair.rec) && pair.given != Given::UsualRows {
+        return Ok(()); // 000 draws nothing of it; it is asked again with the rows in the usual order
+    }
     let our = calls::vet(pair.ours);
     let of_a_surrogate = our.refusal >= 10 && (0xD800..=0xDFFF).contains(&our.place);
     let Some(expected) = expected(pair).filter(|_| !of_a_surrogate) else {

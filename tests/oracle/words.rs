@@ -1,7 +1,7 @@
 //! Answers in words, for differences and for the listed departures.
 use crate::asked::{Call, Function, Function::*};
 use crate::calls;
-use crate::sides::{before, caught, our, their, Aligned, Kind, Theirs, Values};
+use crate::sides::{before, caught, our, their, Aligned, Given, Kind, Theirs, Values};
 use crate::twins;
 use original::plain;
 
@@ -113,11 +113,11 @@ pub fn hex(bytes: &[u8]) -> String {
 }
 
 /// a difference, whole
-pub fn difference(bytes: &[u8], call: &Call, twin: bool, said: &str) {
+pub fn difference(bytes: &[u8], call: &Call, given: Given, said: &str) {
     println!("oracle: {said}");
     println!("font: {}", hex(bytes));
     println!("call: {call}");
-    let made = if twin { twins::twin(bytes, &calls::load(bytes).rec) } else { None };
+    let made = twins::given(given, bytes, &calls::load(bytes).rec);
     if let Some(made) = &made {
         println!("000 was given its twin: {}", hex(made));
     }

@@ -39,6 +39,45 @@ static size_t row_bytes(const struct font *f, size_t width)
     return ((width + 7) / 8 + pad - 1) / pad * pad;
 }
 
+/* Where a glyph's rows start in the bitmap data. */
+static uint32_t offset(const struct font *f, size_t glyph)
+{
+    const uint8_t *b = f->bytes + f->rec.bitmaps.offsets + 4 * glyph;
+    uint32_t made = 0;
+    int k;
+
+    for (k = 0; k < 4; k++)
+        made = made << 8 | b[f->rec.bitmaps.big ? k : 3 - k];
+    return made;
+}
+
+/* How many bytes from a row's start on hold its columns. Where bit and byte order differ, the first columns of a unit
+ * stand in its last byte. */
+static size_t held_bytes(const struct font *f, size_t width)
+{
+    size_t unit = f->rec.bitmaps.big == f->rec.bitmaps.top ? 1 : (size_t)1 << f->rec.bitmaps.unit;
+
+    return ((width + 7) / 8 + unit - 1) / unit * unit;
+}
+
+/* Whether the bitmap data ends before the rows of the character, which are as wide as its advance. */
+static bool data_ends(const struct font *f, FT_GlyphSlot slot, size_t glyph)
+{
+    size_t width = (size_t)slot->advance.x / 64, rows = slot->bitmap.rows;
+
+    return width > 0 && rows > 0
+           && offset(f, glyph) + (rows - 1) * row_bytes(f, width) + held_bytes(f, width) > f->rec.bitmaps.size;
+}
+
+/* The number with which vetting refuses the code's glyph, or 0. In fonts that FreeType reads each glyph has metrics and
+ * a bitmap; names are compared elsewhere. */
+static uint32_t fault(const struct font *f, FT_GlyphSlot slot, size_t glyph)
+{
+    if (out_of_range(f, slot))
+        return THK_BAD_METRICS;
+    return data_ends(f, slot, glyph) ? THK_BITMAP_SHORT : THK_DONE;
+}
+
 size_t larger(size_t a, size_t b)
 {
     return a > b ? a : b;
@@ -93,7 +132,8 @@ static struct page unpacked(const struct font *f, uint32_t code, thk_glyph_info 
 
 bool character(struct font *f, uint32_t code)
 {
-    FT_GlyphSlot slot = loaded(f, FT_Get_Char_Index(f->face, code));
+    FT_UInt index = FT_Get_Char_Index(f->face, code);
+    FT_GlyphSlot slot = loaded(f, index);
     thk_info_answer placed = thk_prep_char(FONT(f), (thk_char_code){code});
     thk_glyph_info info = placed.info;
     size_t box, whole, left, top, lines, stride;
@@ -103,8 +143,10 @@ bool character(struct font *f, uint32_t code)
         return false;
     measure(f, slot);
     bad = out_of_range(f, slot);
-    if (bad && f->bad < 0)
+    if (f->fault == THK_DONE) {
+        f->fault = fault(f, slot, index - 1);
         f->bad = code;
+    }
     if (!same(f, placed.refusal, bad ? THK_BAD_METRICS : THK_DONE, "refusal of code %ld", (long)code) || bad) {
         count.out_of_range++;
         return false;

@@ -17,11 +17,11 @@ FT_GlyphSlot loaded(const struct font *f, FT_UInt index)
 
 uint32_t bit_order(const struct font *f)
 {
-    return f->rec.bitmaps.unit != 0 || !f->rec.bitmaps.top ? THK_BIT_ORDER : THK_DONE;
+    return f->rec.bitmaps.unit == 3 || 1 << f->rec.bitmaps.unit > f->rec.bitmaps.pad ? THK_BIT_ORDER : THK_DONE;
 }
 
 /* The bitmap in the glyph's box. */
-static void bitmap(const struct font *f, thk_glyph_index number, const FT_Bitmap *of)
+static void bitmap(struct font *f, thk_glyph_index number, const FT_Bitmap *of)
 {
     size_t wide = of->width ? of->width : 1;
     struct page page = blank(of->rows, wide), peers = blank(of->rows, wide);
@@ -34,6 +34,7 @@ static void bitmap(const struct font *f, thk_glyph_index number, const FT_Bitmap
         right = right && same_pages(f, page, peers, 0, 0, "glyph", number.value);
     } else {
         put(peers, of, 0, 0, of->width);
+        f->peers = digest(f->peers, peers.pixels, peers.lines * wide * sizeof *peers.pixels);
         right &= same(f, drawn.rows.drawn, of->rows, "rows drawn of glyph %ld", (long)number.value);
         right &= same_pages(f, page, peers, 0, 0, "glyph", number.value);
         count.bitmaps += right;
@@ -42,7 +43,7 @@ static void bitmap(const struct font *f, thk_glyph_index number, const FT_Bitmap
     free(peers.pixels);
 }
 
-void glyph(const struct font *f, thk_glyph_index number, FT_UInt index)
+void glyph(struct font *f, thk_glyph_index number, FT_UInt index)
 {
     thk_metrics_answer ours = thk_metrics(FONT(f), number);
     const thk_measures *m = &ours.metrics;

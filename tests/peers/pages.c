@@ -26,6 +26,16 @@ bool same(const struct font *f, long long ours, long long peers, const char *wha
     return false;
 }
 
+uint64_t digest(uint64_t before, const void *bytes, size_t len)
+{
+    const uint8_t *b = bytes;
+    size_t i;
+
+    for (i = 0; i < len; i++)
+        before = (before ^ b[i]) * 1099511628211U;
+    return before;
+}
+
 struct page blank(size_t lines, size_t stride)
 {
     struct page p = {lines, stride, malloc((lines * stride + 1) * sizeof(uint32_t))};

@@ -3,8 +3,9 @@
  * glyphs; those that are given with a font are compared.
  *
  * Standard input has for each font three lengths, eight bytes each as the machine has them, then the font's name, its
- * bytes, and lines of a code and its glyph's name. Standard output has the first differences, and in lines that begin
- * with "=" what was counted. Exit status 1 for a difference, 2 for trouble.
+ * bytes, and lines of a code and its glyph's name. Standard output has the first differences, for each vetted font a
+ * line that begins with "dump", and in lines that begin with "=" what was counted. Exit status 1 for a difference, 2
+ * for trouble.
  *
  * FreeType puts a copy of the default character's glyph before all others, so that its index of a glyph is the font's
  * number and 1. Where a code has no glyph it answers 0. Its bitmaps are as wide as the glyph's box, from the left to
@@ -61,8 +62,8 @@ static void codes(struct font *f)
 static void font(FT_Library library, const char *name, const uint8_t *bytes, size_t len, char *lines)
 {
     thk_font_answer ours = thk_load(bytes, len);
-    struct font f = {name, bytes, len, ours.rec, NULL, -1, {LONG_MAX, LONG_MAX, LONG_MAX, LONG_MAX, LONG_MAX},
-                     {LONG_MIN, LONG_MIN, LONG_MIN, LONG_MIN, LONG_MIN}};
+    struct font f = {name, bytes, len, ours.rec, NULL, THK_DONE, 0, {LONG_MAX, LONG_MAX, LONG_MAX, LONG_MAX, LONG_MAX},
+                     {LONG_MIN, LONG_MIN, LONG_MIN, LONG_MIN, LONG_MIN}, DIGEST};
     uint32_t k;
     FT_Error error = FT_New_Memory_Face(library, bytes, (FT_Long)len, 0, &f.face);
 
@@ -77,6 +78,7 @@ static void font(FT_Library library, const char *name, const uint8_t *bytes, siz
     count.fonts++;
     count.long_metrics += !f.rec.metrics.compressed;
     count.padded_to_8 += f.rec.bitmaps.pad == 8;
+    count.usual += f.rec.bitmaps.unit == 0 && f.rec.bitmaps.top;
     accelerators(&f);
     for (k = 0; k < f.rec.props.count; k++)
         property(&f, k);
@@ -87,6 +89,7 @@ static void font(FT_Library library, const char *name, const uint8_t *bytes, siz
         codes(&f);
         bounds(&f);
         vetting(&f);
+        dump(&f);
     }
     names(&f, lines);
     FT_Done_Face(f.face);

@@ -31,18 +31,20 @@ struct font {
     size_t len;
     thk_record rec;
     FT_Face face;
-    long long bad;         /* the first code of which FreeType's metrics are out of range, or -1 */
+    uint32_t fault;        /* the number with which vetting has to refuse a code, or 0 */
+    uint32_t bad;          /* the first such code */
     struct extremes least; /* of FreeType's metrics of all codes' glyphs */
     struct extremes most;
+    uint64_t peers;        /* a digest of FreeType's bitmaps */
 };
 
 #define FONT(f) (f)->bytes, (f)->len, (f)->rec
 
 #define COUNTED(C)                                                                                                     \
-    C(fonts) C(neither) C(long_metrics) C(padded_to_8) C(bounds) C(vetted) C(refused_11) C(refused_13) C(numbers)      \
-    C(strings) C(repeated) C(with_glyph) C(without_glyph) C(metrics) C(bitmaps) C(empty) C(not_drawn) C(defaults)      \
-    C(no_default) C(characters) C(cut) C(wider) C(out_of_range) C(other_rows) C(texts) C(letters) C(names)             \
-    C(differences)
+    C(fonts) C(neither) C(long_metrics) C(padded_to_8) C(usual) C(bounds) C(vetted) C(refused_11) C(refused_13)        \
+    C(refused_14) C(numbers) C(strings) C(repeated) C(with_glyph) C(without_glyph) C(metrics) C(bitmaps) C(empty)      \
+    C(not_drawn) C(defaults) C(no_default) C(characters) C(cut) C(wider) C(out_of_range) C(other_rows) C(texts)        \
+    C(letters) C(names) C(differences)
 
 #define FIELD(name) unsigned long name;
 extern struct counts {
@@ -52,6 +54,11 @@ extern struct counts {
 void fail(const char *what);
 
 /* ---- pages.c */
+
+enum { DIGEST = 1469598103 }; /* of nothing */
+
+/* The digest of what was digested before and of these bytes. */
+uint64_t digest(uint64_t before, const void *bytes, size_t len);
 
 struct page {
     size_t lines, stride;
@@ -93,7 +100,7 @@ FT_GlyphSlot loaded(const struct font *f, FT_UInt index);
 uint32_t bit_order(const struct font *f);
 
 /* The metrics and the bitmap of a glyph, which FreeType has under the index. */
-void glyph(const struct font *f, thk_glyph_index number, FT_UInt index);
+void glyph(struct font *f, thk_glyph_index number, FT_UInt index);
 
 /* The glyph that FreeType puts before all others: the default code's; if the table does not reach to that code, its
  * first one's; if there is none, the first. */
@@ -106,6 +113,11 @@ size_t larger(size_t a, size_t b);
 /* A character placed, drawn and unpacked, where the rows of FreeType's bitmap and of the library's are the same bytes.
  * Whether it may stand in a text: is drawn, and as wide as its box. */
 bool character(struct font *f, uint32_t code);
+
+/* ---- dumps.c */
+
+/* Prints of a vetted font a digest of all that a dump has of it, and the one of FreeType's bitmaps. */
+void dump(const struct font *f);
 
 /* ---- texts.c */
 

@@ -3,12 +3,20 @@
 compares all that both answer (peers.c). FreeType does not read the names of glyphs: those are compared with the ones
 that pcf2bdf writes.
 
-All those fonts have one format. So bdftopcf writes each a second time, by turns with other byte orders, row pads, bit
-orders and scan units, and one in three with a last glyph so wide that metrics have 12 bytes; these are compared in the
-same way.
+All those fonts have one format. So bdftopcf writes each a second time, by turns in every format that it can: row pad,
+bit order, byte order and scan unit; the tests' own writer then pads some rows to 8 bytes. One in four has a last glyph
+so wide that metrics have 12 bytes. These are compared in the same way; where the unit is wider than the row pad, which
+bdftopcf does not mind, or has code 3, both read the font and the library draws nothing of it (13).
+
+Of five fonts the first characters are written in every order that the library draws, 24 by bdftopcf and 12 more with
+rows of 8 bytes: all those of one font have to have one content of a dump, by the exported calls, and by FreeType one
+set of bitmaps. The dumper is not run: prep_char, name and unpack_glyph give what stands in a dump's lines, of which a
+digest is taken (dumps.c).
 
 What FreeType does in its own way, and how that is met:
 - its glyph 0 is a copy of the default character's glyph, or where the font has none of the first; it is compared too;
+- it turns the bits of a row's bytes and swaps a unit's bytes where bit and byte order differ, over all of a glyph's
+  bytes: that is what document 02 says of units, as long as they are not wider than the row pad;
 - its bitmaps are as wide as the glyph's box, those of document 01 as the character. In the box every glyph is compared,
   with draw_bitmap; as a character one whose rows take the same bytes in both, but for columns past its box;
 - its number properties have a sign; 32 bits are compared;
@@ -29,18 +37,21 @@ sys.path.insert(0, os.path.dirname(os.path.dirname(os.path.abspath(__file__))))
 import common  # noqa: E402
 from common import ROOT, TESTS, install  # noqa: E402
 from native import library  # noqa: E402
-from pcf.rewriting import padded_to_8  # noqa: E402
+from pcf.orders import ORDERS  # noqa: E402
+from pcf.rewriting import bitmap_format, by_box, reordered, with_bitmap_format  # noqa: E402
 
 FONTS = ["xfonts-base", "xfonts-terminus", "xfonts-unifont"]
 HEADERS = "/usr/include/freetype2"
 
-# bdftopcf's options: row pad, bit order, byte order, scan unit. Drawing from the last two is refused (13).
-FORMATS = [
-    "-p1 -m -L -u1", "-p2 -m -L -u1", "-p4 -m -L -u1", "-p1 -m -M -u1", "-p2 -m -M -u1",
-    "-p1 -l -L -u1", "-p4 -m -M -u2",
-]
-EIGHT = FORMATS[2]  # bdftopcf does not pad rows to 8 bytes; padded_to_8 does
-NOT_DRAWN = FORMATS[-2:]
+# bdftopcf's options: row pad, bit order, byte order, scan unit
+FORMATS = ["-p%d -%s -%s -u%d" % (pad, bits, order, unit)
+           for pad in (1, 2, 4) for unit in (1, 2, 4) if unit <= pad for bits in "ml" for order in "LM"]
+NOT_DRAWN = ["-p1 -m -L -u2", "-p1 -l -M -u4", "-p2 -l -L -u4"]
+TURNS = FORMATS + NOT_DRAWN
+
+# in these fonts a glyph's box is as wide as its character, so that document 01 and X11 lay out rows alike
+IN_EVERY_ORDER = ["ter-u12n_iso-8859-1", "ter-u32b_iso-8859-1", "6x13-ISO8859-1", "18x18ja", "unifont_sample"]
+FIRST = 300  # of their characters
 
 # A glyph that does not fit compressed metrics, in which a number is below 128.
 WIDE = b"SWIDTH 500 0\nDWIDTH 136 0\nBBX 136 1 0 0\nBITMAP\n%s\nENDCHAR\n\nENDFONT\n" % (b"A7" * 17)
@@ -113,27 +124,69 @@ def as_is(paths, folder, lacks):
         yield os.path.basename(path), uncompressed(path), names(bdf)
 
 
+def kept(folder, k):
+    with open(os.path.join(folder, "%d.bdf" % k), "rb") as f:
+        return f.read()
+
+
+def formatted(bdf, options, folder, what):
+    """the font that bdftopcf makes"""
+    source, made = os.path.join(folder, "source.bdf"), os.path.join(folder, "made.pcf")
+    with open(source, "wb") as f:
+        f.write(bdf)
+    converted(["bdftopcf", *options.split(), "-o", made, source], what)
+    return uncompressed(made)
+
+
+def in_rows_of_8(font):
+    return reordered(font, bitmap_format(font) | 3, by_box)
+
+
 def format_of(k):
-    """bdftopcf's options for a font, and whether its metrics have to have 12 bytes"""
-    return FORMATS[k % len(FORMATS)], k % 3 == 1
+    """bdftopcf's options for a font; whether its metrics have to have 12 bytes; whether the bitmaps get a format that
+    bdftopcf does not write: rows of 8 bytes, or units of code 3"""
+    options = TURNS[k % len(TURNS)]
+    return options, k % 4 == 1, k // len(TURNS) % 2 == 1 and (options.startswith("-p4") or options in NOT_DRAWN)
 
 
 def rewritten(paths, folder):
     """the same of each font in another format"""
-    made = os.path.join(folder, "rewritten.pcf")
     for k, path in enumerate(paths):
-        options, wide = format_of(k)
-        source = os.path.join(folder, "%d.bdf" % k)
-        with open(source, "rb") as f:
-            bdf = f.read()
+        options, wide, other = format_of(k)
+        bdf = kept(folder, k)
         if wide:
             bdf = bdf[:bdf.rindex(b"\nSWIDTH ") + 1] + WIDE
-            with open(source, "wb") as f:
-                f.write(bdf)
-        converted(["bdftopcf", *options.split(), "-o", made, source], path)
-        font = uncompressed(made)
-        name = "%s, bdftopcf %s%s" % (os.path.basename(path), options, " wide" * wide)
-        yield name, padded_to_8(font) if options == EIGHT and k % 2 else font, names(bdf)
+        font = formatted(bdf, options, folder, path)
+        if other:
+            code_3 = bitmap_format(font) | 48
+            font = with_bitmap_format(font, code_3) if options in NOT_DRAWN else in_rows_of_8(font)
+        name = "%s, bdftopcf %s%s%s" % (os.path.basename(path), options, " wide" * wide, " changed" * other)
+        yield name, font, names(bdf)
+
+
+def first_characters(bdf):
+    head, *characters = re.split(rb"(?m)^(?=STARTCHAR )", bdf)
+    characters[-1] = characters[-1].replace(b"ENDFONT", b"")
+    head = re.sub(rb"(?m)^CHARS \d+", b"CHARS %d" % min(FIRST, len(characters)), head)
+    return head + b"".join(characters[:FIRST]) + b"ENDFONT\n"
+
+
+def plain_name(path):
+    return os.path.basename(path).split(".")[0]
+
+
+def in_every_order(paths, folder):
+    """name, bytes and names of some fonts in each order"""
+    for k, path in enumerate(paths):
+        called = plain_name(path)
+        if called not in IN_EVERY_ORDER:
+            continue
+        bdf = first_characters(kept(folder, k))
+        for options in FORMATS:
+            font = formatted(bdf, options, folder, path)
+            yield "%s, bdftopcf %s" % (called, options), font, names(bdf)
+            if options.startswith("-p4"):
+                yield "%s, bdftopcf %s, then rows of 8" % (called, options), in_rows_of_8(font), b""
 
 
 # ---- comparing
@@ -148,7 +201,7 @@ def build(folder):
 
 
 def compared(program, folder, given):
-    """what the program counts over the fonts; ends the test at a difference"""
+    """what the program counts over the fonts, and the dumps' digests; ends the test at a difference"""
     said = os.path.join(folder, "said")
     with open(said, "wb") as out:
         running = subprocess.Popen([program], stdin=subprocess.PIPE, stdout=out)
@@ -164,15 +217,17 @@ def compared(program, folder, given):
         text = f.read()
     count = {name: int(n) for name, n in re.findall(r"^= (\w+) (\d+)$", text, re.M)}
     if status != 0:
-        print(re.sub(r"^= .*\n", "", text, flags=re.M), end="")
+        print(re.sub(r"^(=|dump) .*\n", "", text, flags=re.M), end="")
         fail("%s differences, the first of them above" % count.get("differences", "status %d; no count of" % status))
-    return count
+    return count, re.findall(r"^dump (\w+) (\w+) (\d+) ([^,\n]*)", text, re.M)
 
 
 REPORT = """\
 peers: {fonts} {what} read by both, {neither} by neither
-    {long_metrics} have metrics of 12 bytes, {padded_to_8} rows padded to 8
-    vetting passes {vetted}, refuses 11 {refused_11}, 13 {refused_13}; as FreeType's metrics have it, with the code
+    {long_metrics} have metrics of 12 bytes, {padded_to_8} rows padded to 8, {usual} one-byte units with the top bit \
+leftmost
+    vetting passes {vetted}, refuses 11 {refused_11}, 13 {refused_13}, 14 {refused_14}; as FreeType's metrics and the \
+bitmaps' offsets have it, with the code
     properties: {numbers} numbers, {strings} strings; skipped {repeated} with the name of an earlier one
     codes: {with_glyph} with a glyph, {without_glyph} without
     glyphs: {metrics} with their metrics, {bitmaps} bitmaps, {empty} of them empty; not drawn (13) {not_drawn}
@@ -196,13 +251,42 @@ def report(what, count):
 def checked_formats(count, fonts):
     """the rewritten fonts have the formats that were asked for"""
     formats = [format_of(k) for k in range(fonts)]
-    refused, wide = sum(options in NOT_DRAWN for options, _ in formats), sum(wide for _, wide in formats)
-    if count["refused_13"] != refused:
-        fail("%d fonts have a bit order or a scan unit to refuse, %d are" % (refused, count["refused_13"]))
+    asked = {
+        "refused_13": sum(options in NOT_DRAWN for options, _, _ in formats),
+        "padded_to_8": sum(other and options not in NOT_DRAWN for options, _, other in formats),
+        "usual": sum("-m" in options and "-u1" in options for options, _, _ in formats),
+    }
+    for name, fonts_asked in asked.items():
+        if count[name] != fonts_asked:
+            fail("%d fonts were to count as %s, %d do" % (fonts_asked, name, count[name]))
+    wide = sum(wide for _, wide, _ in formats)
     if count["long_metrics"] < wide:
         fail("%d fonts have too wide a glyph, %d have metrics of 12 bytes" % (wide, count["long_metrics"]))
-    if count["padded_to_8"] == 0:
-        fail("no font has rows padded to 8 bytes")
+
+
+def checked_dumps(dumps, fonts):
+    """all rewritings of one font have the same content of a dump, and in FreeType the same bitmaps"""
+    found = {}
+    for ours, peers, lines, called in dumps:
+        found.setdefault(called, []).append((ours, peers, lines))
+    if set(found) != fonts:
+        fail("there are dumps of %s, not of %s" % (sorted(found), sorted(fonts)))
+    for called, seen in found.items():
+        if len(seen) != len(ORDERS) or len(set(seen)) != 1:
+            fail("%s has %d contents in %d of %d orders" % (called, len(set(seen)), len(seen), len(ORDERS)))
+        print("peers: %s has one content of a dump, %s lines, in %d orders, and one set of bitmaps" % (
+            called, seen[0][2], len(seen)))
+
+
+def compare_orders(program, folder, paths):
+    there = set(IN_EVERY_ORDER) & set(map(plain_name, paths))
+    absent = [called for called in IN_EVERY_ORDER if called not in there]
+    if absent:
+        print("peers: not there to be written in every order: %s" % ", ".join(absent))
+    if there:
+        count, dumps = compared(program, folder, in_every_order(paths, folder))
+        report("fonts (%d, each in every order)" % len(there), count)
+        checked_dumps(dumps, there)
 
 
 def main():
@@ -218,11 +302,12 @@ def main():
         if lacks:
             print("peers: without %s, not to be had here" % ", ".join(lacks))
         packages = ", ".join(package for package in FONTS if package not in lacks)
-        report("fonts of " + packages, compared(program, folder, as_is(paths, folder, lacks)))
+        report("fonts of " + packages, compared(program, folder, as_is(paths, folder, lacks))[0])
         if not {"pcf2bdf", "xfonts-utils"} & set(lacks):
-            count = compared(program, folder, rewritten(paths, folder))
-            report("fonts rewritten by bdftopcf in %d formats" % len(FORMATS), count)
+            count, _ = compared(program, folder, rewritten(paths, folder))
+            report("fonts rewritten by bdftopcf in %d formats" % len(TURNS), count)
             checked_formats(count, len(paths))
+            compare_orders(program, folder, paths)
     print("peers: %d seconds" % (time.monotonic() - begun))
 
 

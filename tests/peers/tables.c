@@ -92,20 +92,27 @@ void bounds(const struct font *f)
     count.bounds += right;
 }
 
-/* Vetting finds the first code that is out of range, in a font that can be drawn and has bounds that hold. */
+/* Vetting finds the first code that is out of range or whose rows run past the data, in a font that can be drawn and
+ * has bounds that hold. */
 void vetting(const struct font *f)
 {
     thk_font_answer ours = thk_vet(f->bytes, f->len);
-    uint32_t bounds = thk_dimensions(FONT(f)).refusal, expected = bit_order(f);
+    uint32_t expected = bit_order(f);
+    long long place = 0;
 
     if (!expected)
-        expected = bounds || f->bad >= 0 ? THK_BAD_METRICS : THK_DONE;
+        expected = thk_dimensions(FONT(f)).refusal;
+    if (!expected && f->fault) {
+        expected = f->fault;
+        place = f->bad;
+    }
     same(f, ours.refusal, expected, "refusal in vetting");
-    if (!bounds && expected == THK_BAD_METRICS)
-        same(f, (long long)ours.place, f->bad, "the code that vetting refuses");
+    if (expected)
+        same(f, (long long)ours.place, place, "the place where vetting refuses");
     count.vetted += ours.refusal == THK_DONE;
     count.refused_11 += ours.refusal == THK_BAD_METRICS;
     count.refused_13 += ours.refusal == THK_BIT_ORDER;
+    count.refused_14 += ours.refusal == THK_BITMAP_SHORT;
 }
 
 void names(const struct font *f, char *lines)
