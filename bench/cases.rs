@@ -27,18 +27,31 @@ impl Font {
     pub fn extent(&self) -> (usize, usize) {
         self.original.dimensions()
     }
+
+    /// Whether 000 draws its rows.
+    pub fn in_usual_order(&self) -> bool {
+        self.rec.bitmaps.unit == 0 && self.rec.bitmaps.top
+    }
 }
 
 pub trait Case {
     fn port(&mut self);
-    /// Nothing for a call that 000 does not have.
-    fn original(&mut self) {}
+    /// The side that the port is measured beside, which is 000 for every case of this file; nothing for a call that it
+    /// does not have.
+    fn beside(&mut self) {}
     /// Whether both sides answer the same and draw the same on cleared pages.
     fn same(&mut self) -> bool;
     /// How many glyphs, codes or the like a call goes over.
     fn per(&self) -> usize {
         1
     }
+}
+
+/// A case of which the port's pixels can be compared with those of another font.
+pub trait Drawing: Case {
+    type Drawn: PartialEq;
+    /// What the port leaves on cleared pages; none where it refuses or drops rows.
+    fn drawn(&self) -> Option<Self::Drawn>;
 }
 
 // ---- texts
@@ -83,22 +96,32 @@ impl Case for Text {
         black_box(calls::draw_string(bytes, *rec, text, &mut self.page, 0, self.wrap, self.stride, self.scale, COLOUR));
     }
 
-    fn original(&mut self) {
+    fn beside(&mut self) {
         let wrap = (self.wrap != NO_WRAP).then_some(self.wrap as usize);
         let font = &self.font.original;
         black_box(font.draw_string(&self.text, &mut self.page, 0, wrap, self.stride, self.scale, COLOUR));
     }
 
     fn same(&mut self) -> bool {
-        let Font { bytes, rec, original } = self.font;
-        let text = self.text.as_bytes();
-        let mut one = vec![0; self.page.len()];
-        let mut other = vec![0; self.page.len()];
-        let drawn = calls::draw_string(bytes, *rec, text, &mut one, 0, self.wrap, self.stride, self.scale, COLOUR);
+        let mut page = vec![0; self.page.len()];
         let wrap = (self.wrap != NO_WRAP).then_some(self.wrap as usize);
-        let height = original.draw_string(&self.text, &mut other, 0, wrap, self.stride, self.scale, COLOUR);
-        let inked = self.text.trim().is_empty() || one.contains(&COLOUR);
-        drawn.refusal == 0 && drawn.rows.dropped == 0 && drawn.rows.height == height && one == other && inked
+        let font = &self.font.original;
+        let height = font.draw_string(&self.text, &mut page, 0, wrap, self.stride, self.scale, COLOUR);
+        let inked = self.text.trim().is_empty() || page.contains(&COLOUR);
+        inked && self.drawn() == Some((height, page))
+    }
+}
+
+impl Drawing for Text {
+    /// The height that is answered, and the page.
+    type Drawn = (usize, Vec<u32>);
+
+    fn drawn(&self) -> Option<Self::Drawn> {
+        let Font { bytes, rec, .. } = self.font;
+        let text = self.text.as_bytes();
+        let mut page = vec![0; self.page.len()];
+        let drawn = calls::draw_string(bytes, *rec, text, &mut page, 0, self.wrap, self.stride, self.scale, COLOUR);
+        (drawn.refusal == 0 && drawn.rows.dropped == 0).then_some((drawn.rows.height, page))
     }
 }
 
@@ -163,6 +186,14 @@ impl Glyphs {
         let stride = width * scale;
         Glyphs { font, placed: Placed::of(font), page: vec![0; stride * scale * (height + 1)], stride, scale }
     }
+
+    /// A cleared page as the port leaves it; none where it refuses or drops rows.
+    fn by_port(&self, info: GlyphInfo) -> Option<Vec<u32>> {
+        let Font { bytes, rec, .. } = self.font;
+        let mut page = vec![0; self.page.len()];
+        let drawn = calls::draw_glyph(bytes, *rec, info, &mut page, 0, self.stride, self.scale, COLOUR);
+        (drawn.refusal == 0 && drawn.rows.dropped == 0).then_some(page)
+    }
 }
 
 impl Case for Glyphs {
@@ -173,25 +204,31 @@ impl Case for Glyphs {
         }
     }
 
-    fn original(&mut self) {
+    fn beside(&mut self) {
         for &info in &self.placed.original {
             self.font.original.draw_glyph(info, &mut self.page, 0, self.stride, self.scale, COLOUR);
         }
     }
 
     fn same(&mut self) -> bool {
-        let Font { bytes, rec, original } = self.font;
         self.placed.port.iter().zip(&self.placed.original).all(|(&info, &other_info)| {
-            let mut one = vec![0; self.page.len()];
-            let mut other = vec![0; self.page.len()];
-            let drawn = calls::draw_glyph(bytes, *rec, info, &mut one, 0, self.stride, self.scale, COLOUR);
-            original.draw_glyph(other_info, &mut other, 0, self.stride, self.scale, COLOUR);
-            drawn.refusal == 0 && drawn.rows.dropped == 0 && one == other
+            let mut page = vec![0; self.page.len()];
+            self.font.original.draw_glyph(other_info, &mut page, 0, self.stride, self.scale, COLOUR);
+            self.by_port(info) == Some(page)
         })
     }
 
     fn per(&self) -> usize {
         self.placed.port.len()
+    }
+}
+
+impl Drawing for Glyphs {
+    /// A page for each character.
+    type Drawn = Vec<Vec<u32>>;
+
+    fn drawn(&self) -> Option<Self::Drawn> {
+        self.placed.port.iter().map(|&info| self.by_port(info)).collect()
     }
 }
 
@@ -212,6 +249,14 @@ impl Unpacked {
         let len = stride * height;
         Unpacked { font, placed: Placed::of(font), bytes: vec![0; len], bools: vec![false; len], stride }
     }
+
+    /// Cleared bytes as the port leaves them; none where it refuses.
+    fn by_port(&self, info: GlyphInfo) -> Option<Vec<u8>> {
+        let Font { bytes, rec, .. } = self.font;
+        let mut unpacked = vec![0; self.bytes.len()];
+        let stored = calls::unpack_glyph(bytes, *rec, info, &mut unpacked, 0, self.stride);
+        (stored.refusal == 0).then_some(unpacked)
+    }
 }
 
 impl Case for Unpacked {
@@ -222,25 +267,31 @@ impl Case for Unpacked {
         }
     }
 
-    fn original(&mut self) {
+    fn beside(&mut self) {
         for &info in &self.placed.original {
             self.font.original.unpack_glyph(info, &mut self.bools, 0, self.stride);
         }
     }
 
     fn same(&mut self) -> bool {
-        let Font { bytes, rec, original } = self.font;
         self.placed.port.iter().zip(&self.placed.original).all(|(&info, &other_info)| {
-            let mut one = vec![0; self.bytes.len()];
-            let mut other = vec![false; self.bools.len()];
-            let stored = calls::unpack_glyph(bytes, *rec, info, &mut one, 0, self.stride);
-            original.unpack_glyph(other_info, &mut other, 0, self.stride);
-            stored.refusal == 0 && one.iter().zip(&other).all(|(&byte, &set)| byte == u8::from(set))
+            let mut bools = vec![false; self.bools.len()];
+            self.font.original.unpack_glyph(other_info, &mut bools, 0, self.stride);
+            self.by_port(info) == Some(bools.into_iter().map(u8::from).collect())
         })
     }
 
     fn per(&self) -> usize {
         self.placed.port.len()
+    }
+}
+
+impl Drawing for Unpacked {
+    /// The bytes of each character.
+    type Drawn = Vec<Vec<u8>>;
+
+    fn drawn(&self) -> Option<Self::Drawn> {
+        self.placed.port.iter().map(|&info| self.by_port(info)).collect()
     }
 }
 
@@ -253,7 +304,7 @@ impl Case for Load {
         black_box(calls::load(black_box(self.0.bytes)));
     }
 
-    fn original(&mut self) {
+    fn beside(&mut self) {
         let _ = black_box(original::load_pcf(black_box(self.0.bytes)));
     }
 
@@ -305,7 +356,7 @@ impl Case for Lookup {
         }
     }
 
-    fn original(&mut self) {
+    fn beside(&mut self) {
         for &code in &self.codes {
             black_box(original_glyph(&self.font.original, code));
         }

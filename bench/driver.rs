@@ -1,4 +1,5 @@
-//! Times the port and 000 on the same calls, or makes each call where an instruction counter looks.
+//! Times the port and 000 on the same calls, or makes each call where an instruction counter looks. Rows that 000 does
+//! not draw are measured beside the same rows in the usual order, both by the port.
 //!
 //!     driver FOLDER check|time|count [CALL]
 //!
@@ -10,6 +11,7 @@ mod calls;
 mod cases;
 mod counter;
 mod lines;
+mod orders;
 #[allow(dead_code)]
 #[path = "../bindings/rust/src/structs.rs"]
 mod structs;
@@ -33,12 +35,12 @@ fn fonts(folder: &Path) -> HashMap<String, &'static Font> {
 /// Each side's call is counted twice, after one that is not. A line: table, call, font, what grows, side, and by how
 /// many the counts are to be divided; in the order of callgrind's files, the first of which is of a call of nothing.
 fn count(line: &Line, case: &mut dyn Case) {
-    for side in ["port", "000"] {
+    for side in ["port", "beside"] {
         let port = side == "port";
-        if !port && !line.paired {
+        if !port && !line.paired() {
             continue;
         }
-        let call = &mut || if port { case.port() } else { case.original() };
+        let call = &mut || if port { case.port() } else { case.beside() };
         call();
         counter::count(call);
         counter::count(call);
@@ -46,9 +48,10 @@ fn count(line: &Line, case: &mut dyn Case) {
     }
 }
 
-/// A line: table, call, font, what grows, nanoseconds of the port and of 000, the ratio and its quartiles.
+/// A line: table, call, font, what grows, nanoseconds of the port and of what it is measured beside, the ratio and its
+/// quartiles.
 fn time(line: &Line, case: &mut dyn Case) {
-    let took = timing::time(case, line.paired);
+    let took = timing::time(case, line.paired());
     let per = case.per() as f64;
     println!(
         "{}\t{}\t{}\t{}\t{}\t{}\t{}\t{}\t{}",
@@ -57,7 +60,7 @@ fn time(line: &Line, case: &mut dyn Case) {
         line.font,
         line.at,
         took.port / per,
-        took.original / per,
+        took.beside / per,
         took.ratio,
         took.lower,
         took.upper
@@ -87,7 +90,7 @@ fn main() {
         if mode == "time" {
             time(&line, case.as_mut());
         } else {
-            println!("{}", if line.paired { "both" } else { "port" });
+            println!("{}", line.beside.told());
         }
     }
 }

@@ -1,15 +1,37 @@
 //! What is measured: the lines of each table, with how a line's case is made.
-use crate::cases::{Case, Font, Glyphs, Load, Lookup, NoBytes, Text, TextCheck, Unpacked, Vet};
-use std::collections::HashMap;
+use crate::cases::{Case, Drawing, Font, Glyphs, Load, Lookup, NoBytes, Text, TextCheck, Unpacked, Vet};
+use crate::orders::InOrder;
+use std::collections::{BTreeSet, HashMap};
 
 /// 60 characters as a meter's panel may have them.
 const READING: &str = "Meter 12 345.678 kWh; water 3.07 m3; heating 21 C; total 948";
 /// What 000 does not have.
 const ALONE: [&str; 3] = ["text_check", "lookup, no bytes", "vet"];
 const SIZES: [&str; 3] = ["6x12", "8x16", "16x32"];
+const SCALES: [usize; 4] = [1, 2, 4, 8];
 
 type Fonts = HashMap<String, &'static Font>;
 type Make = Box<dyn Fn(&Fonts) -> Box<dyn Case>>;
+
+/// What the port is measured beside.
+#[derive(Clone, Copy, PartialEq)]
+pub enum Beside {
+    Original,
+    /// The port itself, with the font in the usual order of rows.
+    UsualOrder,
+    Nothing,
+}
+
+impl Beside {
+    /// How a check's line names it.
+    pub fn told(self) -> &'static str {
+        match self {
+            Beside::Original => "000",
+            Beside::UsualOrder => "usual order",
+            Beside::Nothing => "nothing",
+        }
+    }
+}
 
 pub struct Line {
     pub table: &'static str,
@@ -17,15 +39,21 @@ pub struct Line {
     pub font: String,
     /// The scale, 0 for a call that has none; in the tables of growth what grows.
     pub at: usize,
-    /// Whether 000 has such a call.
-    pub paired: bool,
+    pub beside: Beside,
     pub make: Make,
+}
+
+impl Line {
+    pub fn paired(&self) -> bool {
+        self.beside != Beside::Nothing
+    }
 }
 
 fn line(table: &'static str, call: &'static str, font: &str, at: usize, make: impl CaseOf) -> Line {
     let name = font.to_string();
     let make: Make = Box::new(move |fonts| make(fonts[&name]));
-    Line { table, call, font: font.to_string(), at, paired: !ALONE.contains(&call), make }
+    let beside = if ALONE.contains(&call) { Beside::Nothing } else { Beside::Original };
+    Line { table, call, font: font.to_string(), at, beside, make }
 }
 
 trait CaseOf: Fn(&'static Font) -> Box<dyn Case> + 'static {}
@@ -37,12 +65,12 @@ fn text_of(length: usize) -> String {
 
 fn drawing(all: &mut Vec<Line>) {
     for size in SIZES {
-        for scale in [1, 2, 4, 8] {
+        for scale in SCALES {
             all.push(line("calls", "draw_glyph", size, scale, move |f| Box::new(Glyphs::of(f, scale))));
         }
     }
     for size in SIZES {
-        for scale in [1, 2, 4, 8] {
+        for scale in SCALES {
             all.push(line("calls", "draw_string", size, scale, move |f| Box::new(Text::on_a_line(f, READING, scale))));
         }
     }
@@ -98,13 +126,46 @@ fn growth(all: &mut Vec<Line>, sizes: &[(String, usize)], codes: &[(String, usiz
     }
 }
 
-/// All lines. A font that is named by its size, as 8x16, stands in the table of sizes; one named by a number of codes,
-/// as unifont-256, in the table of codes.
+/// A call with the font of a size in another order, beside the same with that font in the usual one.
+fn line_in_order<C: Drawing + 'static>(
+    call: &'static str,
+    size: &str,
+    order: &str,
+    at: usize,
+    case: impl Fn(&'static Font) -> C + 'static,
+) -> Line {
+    let (font, usual) = (format!("{size}, {order}"), size.to_string());
+    let other = font.clone();
+    let make: Make = Box::new(move |fonts| Box::new(InOrder::of(fonts[&other], fonts[&usual], &case)));
+    Line { table: "orders", call, font, at, beside: Beside::UsualOrder, make }
+}
+
+fn other_order(all: &mut Vec<Line>, order: &str) {
+    for size in SIZES {
+        for scale in SCALES {
+            let case = move |f| Text::on_a_line(f, READING, scale);
+            all.push(line_in_order("draw_string", size, order, scale, case));
+        }
+    }
+    for size in SIZES {
+        all.push(line_in_order("draw_glyph", size, order, 1, |f| Glyphs::of(f, 1)));
+    }
+    for size in SIZES {
+        all.push(line_in_order("unpack_glyph", size, order, 0, Unpacked::of));
+    }
+}
+
+/// All lines. A font that is named by its size, as 8x16, stands in the table of sizes; one named by its size and an
+/// order of rows, with a comma, in the table of orders; one named by a number of codes, as unifont-256, in the table of
+/// codes.
 pub fn lines(fonts: &Fonts) -> Vec<Line> {
     let mut sizes = Vec::new();
+    let mut orders = BTreeSet::new();
     let mut codes = Vec::new();
     for (name, font) in fonts {
-        if let Some((_, count)) = name.split_once('-') {
+        if let Some((_, order)) = name.split_once(", ") {
+            orders.insert(order);
+        } else if let Some((_, count)) = name.split_once('-') {
             codes.push((name.clone(), count.parse().expect("a number of codes")));
         } else if name.contains('x') {
             let (height, width) = font.extent();
@@ -116,6 +177,9 @@ pub fn lines(fonts: &Fonts) -> Vec<Line> {
     let mut all = Vec::new();
     drawing(&mut all);
     reading(&mut all);
+    for order in orders {
+        other_order(&mut all, order);
+    }
     growth(&mut all, &sizes, &codes);
     all
 }

@@ -5,7 +5,10 @@
 
 Prints the tables; with --write puts them into docs/PERFORMANCE.md. With --quick each call is made once and the two
 sides' pixels and answers are compared, and nothing is timed. --only takes the lines of one call, as draw_string.
-A difference ends with status 1."""
+A difference ends with status 1.
+
+Rows in other orders than 000's, which it does not draw, are measured and compared beside the same rows in its order,
+both drawn by the port."""
 import argparse
 import gzip
 import os
@@ -26,10 +29,21 @@ from common import install  # noqa: E402
 from native import library  # noqa: E402
 from original import build  # noqa: E402
 from pcf import reading, twins  # noqa: E402
+from pcf.orders import order_bits  # noqa: E402
+from pcf.rewriting import reordered  # noqa: E402
 
 CALLS = ("draw_glyph", "draw_string", "text_check", "unpack_glyph", "load", "lookup", "vet")
 SIZES = {"6x12": 12, "8x14": 14, "8x16": 16, "10x20": 20, "12x24": 24, "14x28": 28, "16x32": 32}  # Terminus
 ROWS = (1, 4, 16, 64, 256)  # of Unifont's table of 256 rows of 256 codes
+
+# Terminus in other orders of rows. Units are reversed where the last byte of one has its leftmost columns, as it is
+# where byte order and bit order disagree. The row pad is that of the fonts as they are, so that rows are as long.
+REORDERED = ("6x12", "8x16", "16x32")
+ORDERS = {
+    "1-byte units, lowest bit left": order_bits(big=True, top=False, unit=1, pad=4),
+    "4-byte units reversed, top bit left": order_bits(big=False, top=True, unit=4, pad=4),
+    "4-byte units reversed, lowest bit left": order_bits(big=True, top=False, unit=4, pad=4),
+}
 
 
 def tools():
@@ -59,7 +73,10 @@ def make_fonts(folder):
         with open(os.path.join(folder, name + ".pcf"), "wb") as out:
             out.write(font)
     for name, height in SIZES.items():
-        store(name, twins.twin(debian_font("xfonts-terminus", "ter-u%dn_unicode.pcf.gz" % height)))
+        font = twins.twin(debian_font("xfonts-terminus", "ter-u%dn_unicode.pcf.gz" % height))
+        store(name, font)
+        for order, form in ORDERS.items() if name in REORDERED else ():
+            store("%s, %s" % (name, order), reordered(font, form))
     unifont = debian_font("xfonts-unifont", "unifont.pcf.gz")
     store("unifont", twins.twin(unifont))
     with_glyph = {}
@@ -140,6 +157,7 @@ def parts(what, measured, with_glyph):
     for name, title, (heads, rows) in (
             ("goals", "Goals", tables.goals(measured)),
             ("calls", "Calls", tables.calls(measured)),
+            ("orders", "Rows in other orders, beside the usual one", tables.orders(measured)),
             ("length", "draw_string, 8x16, scale 1, wrapped after 40 characters", tables.length(measured)),
             ("scale", "draw_string, 60 characters, 8x16", tables.scale(measured)),
             ("size", "draw_glyph, scale 1", tables.size(measured)),
@@ -188,9 +206,10 @@ def main():
     except (library.Failed, RuntimeError) as failed:
         sys.exit("bench: %s" % failed)
     if asked.quick:
-        sides = [line[0] for line in said(program, fonts, "check", *only)]
-        print("bench: %d cases in which both sides agree, and %d that the port alone has; not timed" % (
-            sides.count("both"), sides.count("port")))
+        beside = [line[0] for line in said(program, fonts, "check", *only)]
+        counts = tuple(map(beside.count, ("000", "usual order", "nothing")))
+        print("bench: %d cases in which both sides agree, %d in which another order of rows gives the usual one's "
+              "pixels, and %d that the port alone has; not timed" % counts)
         return
     made = parts(what, measure(program, fonts, only), with_glyph)
     print("\n\n".join("\n\n".join(filter(None, part)) for part in made.values()))

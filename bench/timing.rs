@@ -29,7 +29,7 @@ fn now() -> f64 {
 /// Nanoseconds for a call, the median; of the ratios of pairs the median and the quartiles.
 pub struct Took {
     pub port: f64,
-    pub original: f64,
+    pub beside: f64,
     pub ratio: f64,
     pub lower: f64,
     pub upper: f64,
@@ -41,7 +41,7 @@ fn batch(case: &mut dyn Case, port: bool, calls: usize) -> f64 {
         if port {
             case.port();
         } else {
-            case.original();
+            case.beside();
         }
     }
     (now() - start) / calls as f64
@@ -70,23 +70,23 @@ fn sorted(mut numbers: Vec<f64>) -> Vec<f64> {
 
 pub fn time(case: &mut dyn Case, paired: bool) -> Took {
     let sizes = [true, false].map(|port| if port || paired { batch_size(case, port) } else { 0 });
-    let (mut port, mut original) = (Vec::new(), Vec::new());
+    let (mut port, mut beside) = (Vec::new(), Vec::new());
     for pair in 0..PAIRS {
         // which side is first alternates too
         for side in [pair % 2 == 0, pair % 2 == 1] {
             if side {
                 port.push(batch(case, true, sizes[0]));
             } else if paired {
-                original.push(batch(case, false, sizes[1]));
+                beside.push(batch(case, false, sizes[1]));
             }
         }
     }
-    let ratios = sorted(port.iter().zip(&original).map(|(one, other)| one / other).collect());
+    let ratios = sorted(port.iter().zip(&beside).map(|(one, other)| one / other).collect());
     let of = |numbers: Vec<f64>| if paired { at_quarter(&numbers, 2) } else { 0.0 };
     let quarters = [1, 2, 3].map(|quarter| if paired { at_quarter(&ratios, quarter) } else { 0.0 });
     Took {
         port: at_quarter(&sorted(port), 2),
-        original: of(sorted(original)),
+        beside: of(sorted(beside)),
         ratio: quarters[1],
         lower: quarters[0],
         upper: quarters[2],
