@@ -53,7 +53,7 @@ enum {
     THK_NO_METRICS = 10,   /* glyph at or above the metrics count */
     THK_BAD_METRICS = 11,  /* metrics out of range */
     THK_NO_BITMAP = 12,    /* glyph at or above the bitmap count */
-    THK_BIT_ORDER = 13,    /* scan unit bits not 0, or bit 8 of the format clear */
+    THK_BIT_ORDER = 13,    /* scan unit code 3, or a scan unit wider than the row pad */
     THK_BITMAP_SHORT = 14, /* a needed bitmap byte lies beyond the bitmap data */
     THK_BAD_ARGUMENT = 15, /* an argument other than the text outside its limits */
     THK_BUFFER_SHORT = 16, /* a pixel to colour lies beyond the buffer */
@@ -124,7 +124,8 @@ typedef struct {
 } thk_metrics_data;
 
 /* `count` offsets from `offsets` on, into bitmap data of `size` bytes from `bits` on. A row is padded to a multiple of
- * `pad` bytes. `unit` is the format's scan unit code, `top` whether a byte's top bit is its leftmost. */
+ * `pad` bytes. `unit` is the format's scan unit code, 0, 1, 2 for units of 1, 2, 4 bytes; `top` is whether a unit's top
+ * bit is its leftmost, else its lowest is. */
 typedef struct {
     bool big;
     uint32_t count;

@@ -47,7 +47,7 @@ impl Refusal {
     pub const BAD_METRICS: u32 = 11;
     /// Glyph at or above the bitmap count.
     pub const NO_BITMAP: u32 = 12;
-    /// Scan unit bits not 0, or bit 8 of the format clear.
+    /// Scan unit code 3, or a scan unit wider than the row pad.
     pub const BIT_ORDER: u32 = 13;
     /// A needed bitmap byte lies beyond the bitmap data.
     pub const BITMAP_SHORT: u32 = 14;
@@ -86,7 +86,7 @@ impl Refusal {
             Refusal::NO_METRICS => "glyph at or above the metrics count",
             Refusal::BAD_METRICS => "metrics out of range",
             Refusal::NO_BITMAP => "glyph at or above the bitmap count",
-            Refusal::BIT_ORDER => "scan unit bits not 0, or bit 8 of the format clear",
+            Refusal::BIT_ORDER => "scan unit code 3, or a scan unit wider than the row pad",
             Refusal::BITMAP_SHORT => "a needed bitmap byte lies beyond the bitmap data",
             Refusal::BAD_ARGUMENT => "an argument other than the text outside its limits",
             Refusal::BUFFER_SHORT => "a pixel to colour lies beyond the buffer",

@@ -122,9 +122,10 @@ pub struct BitmapData {
     pub size: usize,
     /// A row is padded to a multiple of this many bytes: 1, 2, 4 or 8.
     pub pad: u8,
-    /// The format's scan unit code; any but 0 is refused (13) in drawing.
+    /// The format's scan unit code: 0, 1, 2 for units of 1, 2, 4 bytes; any other code, and a unit wider than `pad`,
+    /// is refused (13) in drawing.
     pub unit: u8,
-    /// Whether a byte's top bit is its leftmost; if not, drawing is refused (13).
+    /// Whether a scan unit's top bit is its leftmost; if not, its lowest is.
     pub top: bool,
 }
 
