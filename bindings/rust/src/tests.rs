@@ -106,6 +106,37 @@ fn a_glyph_without_a_bitmap() {
     assert_eq!(page, [0, 0, 0, 1, 1, 1, 0, 0, 0, 1, 0, 1, 0, 0, 0, 0, 0, 0]);
 }
 
+// F with the lowest bit leftmost, and its rows in two-byte units whose low byte comes first, draw the same pixels
+#[test]
+fn other_orders() {
+    let pixels = |font: Font, text: &[u8]| {
+        let mut page = [0; 24];
+        assert_eq!(font.draw_string(text, &mut page, 0, None, 6, 1, 1), Ok(TextRows { height: 3, dropped: 0 }));
+        page
+    };
+    let usual = Font::vet(F).unwrap();
+    let data = usual.record().bitmaps;
+    let mut lowest = F.to_vec();
+    lowest[data.offsets - 8] ^= 8; // the table's format
+    for byte in &mut lowest[data.bits..data.bits + data.size] {
+        *byte = byte.reverse_bits();
+    }
+    let font = Font::vet(&lowest).unwrap();
+    assert!(data.top && !font.record().bitmaps.top);
+    assert_eq!(pixels(font, b"01"), pixels(usual, b"01"));
+
+    let mut paired = F.to_vec();
+    for row in &F[data.bits..data.bits + 3] {
+        paired.extend([0, *row]);
+    }
+    let mut record = *usual.record();
+    record.bitmaps = BitmapData { bits: F.len(), size: 6, pad: 2, unit: 1, ..data };
+    assert_eq!(pixels(Font::with_record(&paired, record), b"0"), pixels(usual, b"0"));
+    record.bitmaps.size = 5; // without the byte that holds the last row's columns
+    let short = Font::with_record(&paired, record).draw_char('0'.into(), &mut [0; 18], 0, 6, 1, 1);
+    assert_eq!(number(short), Refusal::BITMAP_SHORT);
+}
+
 // rows are counted in strides from the bitmap's first pixel, pads included
 #[test]
 fn the_cut() {
