@@ -3,7 +3,8 @@ use Prim.Native.Nat.{ℕ, zero, suc, _+_, _-_, _*_, _/_, _%_, _≤_, _<_, max}
 use mathlib.Core.Path.{_≡_, refl, sym, ap, _∙_}
 use mathlib.Core.Bool.{Bool, true, false, Bool·beq}
 use mathlib.Core.Logic.{_⊎_, inl, inr, ⊎-elim}
-use native.Mathlib.Nat.{eq-or-lt-of-le, le-of-suc-le-suc, not-suc-le-zero, mod-lt, div-add-mod'}
+use native.Mathlib.Nat.{eq-or-lt-of-le, le-of-suc-le-suc, not-suc-le-zero, le-trans, mod-lt, one-mul, zero-mul, add-mul, mul-le-mul-right}
+use native.Mathlib.Nat.{div-add-mod', add-div-right, div-mul-le-self, le-div-iff-mul-le, div-lt-iff-lt-mul}
 use native.Mathlib.Omega.{arith}
 use lib.Dec.{eqb, ltb}
 use borrow.Author.Tests.{eqb-true, eqb-false, ne-eqb, ltb-true, ltb-false}
@@ -83,6 +84,13 @@ module _ (o : Order) (j : ℕ) where
 
 -- ---- how far that makes a row reach
 
+-- no byte takes no unit
+none-whole : (w : ℕ) → 1 ≤ w → (0 + (w - 1)) / w * w ≡ 0
+none-whole w some =
+    let less : (0 + (w - 1)) / w < 1 = div-lt-iff-lt-mul some .1 (omega (arith, one-mul w)) in
+    let none : (0 + (w - 1)) / w ≡ 0 = omega (arith, less) in
+    rw none (zero-mul w)
+
 module _ (o : Order) where
   column-held : (c : ℕ) → byteOf o c ≡ byteOf o (8 * (c / 8))
   column-held c = let e : 8 * (c / 8) + c % 8 ≡ c = omega arith in ap (byteOf o) (sym e) ∙ same-held o (c / 8) (c % 8) (omega arith)
@@ -96,18 +104,44 @@ module _ (o : Order) where
   end-straight f zero = refl
   end-straight f (suc c) = omega (arith, end-straight f c, column-held c, f (c / 8))
 
-  pub end-pairs : ((j : ℕ) → byteOf o (8 * j) ≡ j / 2 * 2 + (1 - j % 2)) → (width : ℕ) → rowEnd o width ≡ (rowBytes width + 1) / 2 * 2
-  unfolding rowEnd
-  end-pairs f zero = refl
-  end-pairs f (suc c) =
-      let next : rowBytes (suc c) ≡ c / 8 + 1 = omega arith in
-      ⊎-elim (λ (e : rowBytes c ≡ c / 8). rw (next, end-pairs f c, column-held c, f (c / 8), e) (omega arith))
-      (λ (e : rowBytes c ≡ c / 8 + 1). rw (next, end-pairs f c, column-held c, f (c / 8), e) (omega arith)) (begun c)
+  -- where a unit's bytes stand in the other order its first byte shows its last columns, so that the last unit counts whole
+  module _ (w : ℕ) (some : 1 ≤ w) where
+    abbrev whole : ℕ → ℕ
+    whole x = (x + (w - 1)) / w * w
 
-  pub end-fours : ((j : ℕ) → byteOf o (8 * j) ≡ j / 4 * 4 + (3 - j % 4)) → (width : ℕ) → rowEnd o width ≡ (rowBytes width + 3) / 4 * 4
-  unfolding rowEnd
-  end-fours f zero = refl
-  end-fours f (suc c) =
-      let next : rowBytes (suc c) ≡ c / 8 + 1 = omega arith in
-      ⊎-elim (λ (e : rowBytes c ≡ c / 8). rw (next, end-fours f c, column-held c, f (c / 8), e) (omega arith))
-      (λ (e : rowBytes c ≡ c / 8 + 1). rw (next, end-fours f c, column-held c, f (c / 8), e) (omega arith)) (begun c)
+    -- x bytes and one more reach to the end of the unit that byte x is in
+    whole-next : (x : ℕ) → whole (x + 1) ≡ x / w * w + w
+    whole-next x =
+        let e : x + 1 + (w - 1) ≡ x + w = omega arith in
+        let q : (x + w) / w ≡ x / w + 1 = add-div-right x some in
+        rw (e, q) (omega (arith, add-mul (x / w) 1 w))
+
+    whole-grows : (x : ℕ) → whole x ≤ x / w * w + w
+    whole-grows x =
+        let q : (x + w) / w ≡ x / w + 1 = add-div-right x some in
+        let low : (x + (w - 1)) / w * w ≤ x + w = le-trans (div-mul-le-self (x + (w - 1)) w) (omega arith) in
+        let up : (x + (w - 1)) / w ≤ (x + w) / w = le-div-iff-mul-le some .1 low in
+        omega (arith, mul-le-mul-right w up, ap (λ (n : ℕ). n * w) q, add-mul (x / w) 1 w)
+
+    -- unless a unit ends there, x bytes already do
+    whole-begun : (x : ℕ) → 1 ≤ x % w → x / w * w + w ≤ whole x
+    whole-begun x h =
+        let room : (x / w + 1) * w ≤ x + (w - 1) = omega (arith, add-mul (x / w) 1 w, div-add-mod' x w) in
+        let up : x / w + 1 ≤ (x + (w - 1)) / w = le-div-iff-mul-le some .1 room in
+        omega (arith, mul-le-mul-right w up, add-mul (x / w) 1 w)
+
+    byte-whole : (x : ℕ) → max (whole x) (x / w * w + (w - 1 - x % w) + 1) ≡ whole (x + 1)
+    byte-whole x =
+        split (eqb (x % w) 0)
+        (λ t. let e = eqb-true (x % w) 0 t in omega (arith, whole-next x, whole-grows x))
+        (λ t. let e = eqb-false (x % w) 0 t in omega (arith, whole-next x, whole-grows x, whole-begun x (omega arith)))
+
+    pub end-mirrored : ((j : ℕ) → byteOf o (8 * j) ≡ j / w * w + (w - 1 - j % w)) → (width : ℕ) → rowEnd o width ≡ whole (rowBytes width)
+    unfolding rowEnd
+    end-mirrored f zero = sym (none-whole w some)
+    end-mirrored f (suc c) =
+        let next : rowBytes (suc c) ≡ c / 8 + 1 = omega arith in
+        let here : byteOf o c ≡ c / 8 / w * w + (w - 1 - c / 8 % w) = column-held c ∙ f (c / 8) in
+        ⊎-elim (λ (e : rowBytes c ≡ c / 8). rw (next, end-mirrored f c, here, e) (byte-whole (c / 8)))
+        (λ (e : rowBytes c ≡ c / 8 + 1). rw (next, end-mirrored f c, here, e) (omega (arith, whole-next (c / 8))))
+        (begun c)
