@@ -1,6 +1,6 @@
 // A bitmap drawn at a place: the answer first, then the pixels, in the part of the buffer from there on.
 use crate::other::other_rows;
-use crate::rows::rows_ink;
+use crate::rows::usual_rows;
 use bitmaps::Drawn;
 use bitmaps::offset_of;
 use bitmaps::order_of;
@@ -51,7 +51,7 @@ fn usual_from(
     if p <= buf.len() {
         let first = b.bits + offset_of(s, b, g) as usize;
         let step = row_stride(width, b.pad);
-        rows_ink(
+        usual_rows(
             s,
             order_of(b),
             first,

@@ -16,7 +16,7 @@ ghost use Rattle.bitmaps.specs.Ink.{inRow, inRows, rowPast, rowsPast, rowBits, 
 
 // Colours one row, of which `row` are the bytes that hold columns, at `at`. Any row's place is far below 2^60, so
 // no sum leaves 64 bits.
-fn row_ink(
+fn usual_row(
     row: &[u8],
     order: Order,
     width: u16,
@@ -49,7 +49,7 @@ fn row_ink(
 
 // Colours the n rows of which row r begins at byte `first` + r × `step` of the file. Each row is lent as its bytes
 // that hold columns, so that reading one of them takes no test.
-pub(crate) fn rows_ink(
+pub(crate) fn usual_rows(
     s: &[u8],
     order: Order,
     first: usize,
@@ -70,7 +70,7 @@ pub(crate) fn rows_ink(
     while r < n as usize {
         let from = first + r * step as usize;
         let end = from + count;
-        row_ink(
+        usual_row(
             &s[from..end],
             order,
             width,

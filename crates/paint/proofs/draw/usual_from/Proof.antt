@@ -16,7 +16,7 @@ returns-4 : tie.Need-returns-4
 returns-4 c =
     lent-drawn _ _ _ _ _ (known tie.Start (search) .pre .1 .0) _ _ _ (known tie.After-offset-of (search) .offset-of .ensures)
     (known tie.After-row-stride (search) .row-stride .ensures) (known tie.After-order-of (search) .order-of .ensures) _ _ _ _ (own-columns _)
-    (bytes (known tie.After-shared-slice-known (search))) _ _ _ (known tie.After-rows-ink (search) .rows-ink .ensures)
+    (bytes (known tie.After-shared-slice-known (search))) _ _ _ (known tie.After-usual-rows (search) .usual-rows .ensures)
 
 pub usual-from-spec : {M : Type 1} → statement M
 usual-from-spec =
@@ -30,14 +30,14 @@ usual-from-spec =
     (λ c. search first-fits)  -- add-first
     (λ c κs. search needs)  -- row-stride-requires
     (λ c κs. search needs)  -- order-of-requires
-    (λ c. search needs)  -- mul-rows-ink
-    (λ c. search needs)  -- sub-rows-ink
-    (λ c. search needs)  -- part-rows-ink-start
-    (λ c. search needs)  -- part-rows-ink-end
+    (λ c. search needs)  -- mul-usual-rows
+    (λ c. search needs)  -- sub-usual-rows
+    (λ c. search needs)  -- part-usual-rows-start
+    (λ c. search needs)  -- part-usual-rows-end
     (λ c κs. (
       (search usual-order, search positive, search (usual-there, rows-there, positive)),
       search (own-columns, lent-room, bytes (known tie.After-shared-slice-known (search))),
-    ))  -- rows-ink-requires
+    ))  -- usual-rows-requires
     (λ c. search needs)  -- same-length
     returns-4
     (λ c. dots-behind _ _ _ _ _ _ (omega arith)))  -- returns-5

@@ -6,8 +6,8 @@ use Rattle.reads.proofs.Places.{known}
 use Rattle.paint.proofs.ReadByte.{plainBit, plain-shown, plain-past, plain-drawn}
 use Rattle.paint.proofs.RowBytes.{Byted, no-byte, byte-fits, byte-place-fits, byte-room, byte-more, all-bytes}
 use borrow.Author.Needs.{needs}
-use Rattle.paint.proofs.rows.row_ink.Statement.{statement}
-use Rattle.paint.proofs.rows.row_ink.Tie as tie
+use Rattle.paint.proofs.rows.usual_row.Statement.{statement}
+use Rattle.paint.proofs.rows.usual_row.Tie as tie
 
 abbrev Inv-loop : tie.InvT-loop
 Inv-loop row width buf₀ at stride scale colour columns j₀ buf j = Byted (plainBit row) at stride scale width colour buf₀ buf j
@@ -18,8 +18,8 @@ abbrev μ-loop : tie.MeasureT-loop
 bytes : (c : tie.After-shared-slice-known Inv-loop μ-loop) → Octets (c .before .args .row .now)
 bytes c = record { below = λ i. c .shared-slice-known .given i .fits }
 
-pub row-ink-spec : {M : Type 1} → statement M
-row-ink-spec =
+pub usual-row-spec : {M : Type 1} → statement M
+usual-row-spec =
     tie.close
     (tie.spec
     Inv-loop

@@ -6,8 +6,8 @@ use Rattle.paint.proofs.LentRow.{usual-reaches, lent-whole, lent-room, 
 use Rattle.bitmaps.proofs.UnitBits.{Octets}
 use Rattle.reads.proofs.Places.{known}
 use borrow.Author.Needs.{needs}
-use Rattle.paint.proofs.rows.rows_ink.Statement.{statement}
-use Rattle.paint.proofs.rows.rows_ink.Tie as tie
+use Rattle.paint.proofs.rows.usual_rows.Statement.{statement}
+use Rattle.paint.proofs.rows.usual_rows.Tie as tie
 
 abbrev Inv-loop : tie.InvT-loop
 Inv-loop s order first step width n buf₀ stride scale colour count r₀ buf r = Rowed (rowBits s order first step) stride scale width n colour buf₀ buf r
@@ -18,8 +18,8 @@ abbrev μ-loop : tie.MeasureT-loop
 bytes : (c : tie.After-shared-slice-known Inv-loop μ-loop) → Octets (c .before .args .s .now)
 bytes c = record { below = λ i. c .shared-slice-known .given i .fits }
 
-pub rows-ink-spec : {M : Type 1} → statement M
-rows-ink-spec =
+pub usual-rows-spec : {M : Type 1} → statement M
+usual-rows-spec =
     tie.close
     (tie.spec
     Inv-loop
@@ -30,12 +30,12 @@ rows-ink-spec =
     (λ c. omega (arith, known (tie.Start Inv-loop μ-loop) (search) .pre .0 .2 .there _ (known (tie.In-loop Inv-loop μ-loop) (search) .loop-test .taken)))  -- mul-from
     (λ c. omega (arith, known (tie.Start Inv-loop μ-loop) (search) .pre .0 .2 .there _ (known (tie.In-loop Inv-loop μ-loop) (search) .loop-test .taken)))  -- add-from
     (λ c. omega (arith, known (tie.Start Inv-loop μ-loop) (search) .pre .0 .2 .there _ (known (tie.In-loop Inv-loop μ-loop) (search) .loop-test .taken)))  -- add-end
-    (λ c. search needs)  -- sub-row-ink
-    (λ c. search needs)  -- part-row-ink-start
-    (λ c. omega (arith, known (tie.Start Inv-loop μ-loop) (search) .pre .0 .2 .there _ (known (tie.In-loop Inv-loop μ-loop) (search) .loop-test .taken)))  -- part-row-ink-end
-    (λ c. search line-fits)  -- mul-row-ink
-    (λ c. search place-fits)  -- mul-row-ink-2
-    (λ c κs. ((search needs, search needs, search place-near, search lent-whole), search (lent-room, usual-reaches, bytes (known (tie.After-shared-slice-known Inv-loop μ-loop) (search)))))  -- row-ink-requires
+    (λ c. search needs)  -- sub-usual-row
+    (λ c. search needs)  -- part-usual-row-start
+    (λ c. omega (arith, known (tie.Start Inv-loop μ-loop) (search) .pre .0 .2 .there _ (known (tie.In-loop Inv-loop μ-loop) (search) .loop-test .taken)))  -- part-usual-row-end
+    (λ c. search line-fits)  -- mul-usual-row
+    (λ c. search place-fits)  -- mul-usual-row-2
+    (λ c κs. ((search needs, search needs, search place-near, search lent-whole), search (lent-room, usual-reaches, bytes (known (tie.After-shared-slice-known Inv-loop μ-loop) (search)))))  -- usual-row-requires
     (λ c. omega arith)  -- add-r
     (λ c. omega arith)  -- loop-less
     (λ c. search (lent-more, usual-reaches, bytes (known (tie.After-shared-slice-known Inv-loop μ-loop) (search))))  -- loop-again
