@@ -18,13 +18,14 @@ use Rattle.lookup.specs.Lookup.{glyphOf}
 use Rattle.lookup.specs.declared.Found.{Found}
 use Rattle.names.specs.Names.{nameOf, nameBytes}
 use Rattle.names.specs.declared.Named.{Named}
-use Rattle.bitmaps.specs.Units.{orderOf}
+use Rattle.bitmaps.specs.Units.{orderOf, unitBytes}
 use Rattle.bitmaps.specs.Rows.{rowBytes, rowStride, rowEnd}
 use Rattle.bitmaps.specs.Picture.{bitsOf, offsetOf, rowsShort}
 use Rattle.bitmaps.specs.declared.Order.{Order}
 use Rattle.bitmaps.proofs.DataBytes.{data-length}
 use Rattle.bitmaps.proofs.LastByte.{last-byte}
-use Rattle.bitmaps.proofs.RowEnds.{four-bytes, held-alone, held-straight, held-mirrored, end-straight, end-pairs, end-fours}
+use Rattle.bitmaps.proofs.UnitBits.{unit-some}
+use Rattle.bitmaps.proofs.RowEnds.{held-straight, held-mirrored, end-straight, end-mirrored}
 use Rattle.load.proofs.Serves.{loaded-serves}
 use Rattle.metrics.specs.Measure.{glyphMetrics}
 use Rattle.place.specs.Bounds.{boundsOf}
@@ -48,11 +49,11 @@ stride-covers width pad h =
 -- its columns need no fewer bytes than a row has, in whatever order their bytes stand
 row-reaches : (o : Order) (width : ℕ) → rowBytes width ≤ rowEnd o width
 row-reaches o width =
+    let w = unitBytes (o .unit) in
+    let x = rowBytes width + (w - 1) in
     split (Bool·beq (o .big) (o .top)) (λ t. omega (arith, end-straight o (λ j. held-straight o j t) width))
-    (λ t. split (eqb (o .unit) 0) (λ u. omega (arith, end-straight o (λ j. held-alone o j (eqb-true (o .unit) 0 u)) width))
-    (λ u. split (eqb (o .unit) 1)
-    (λ v. omega (arith, end-pairs o (λ j. held-mirrored o j 2 (rw (u, v) refl) t) width))
-    (λ v. omega (arith, end-fours o (λ j. held-mirrored o j 4 (four-bytes (o .unit) (eqb-false (o .unit) 0 u) (eqb-false (o .unit) 1 v)) t) width))))
+    (λ t.
+    omega (arith, unit-some (o .unit), end-mirrored o w (unit-some (o .unit)) (λ j. held-mirrored o j w refl t) width, div-add-mod' x w, mod-lt x {m = w} (unit-some (o .unit))))
 
 -- n rows of w bytes that begin a stride of at least w apart end w bytes after the last one's start
 rows-end : (n w stride : ℕ) → 0 < n → w ≤ stride → n * w ≤ (n - 1) * stride + w
