@@ -1,5 +1,5 @@
-//! Times the port and 000 on the same calls, or makes each call where an instruction counter looks. Rows that 000 does
-//! not draw are measured beside the same rows in the usual order, both by the port.
+//! Times the port, 000 and plain loops in C on the same calls, or makes each call where an instruction counter looks.
+//! Rows that 000 does not draw are measured beside the same rows in the usual order, both by the port.
 //!
 //!     driver FOLDER check|time|count [CALL]
 //!
@@ -10,11 +10,15 @@
 mod calls;
 mod cases;
 mod counter;
+mod glyphs;
 mod lines;
 mod orders;
+mod plain;
+mod reading;
 #[allow(dead_code)]
 #[path = "../bindings/rust/src/structs.rs"]
 mod structs;
+mod texts;
 mod timing;
 
 use cases::{Case, Font};
@@ -35,36 +39,29 @@ fn fonts(folder: &Path) -> HashMap<String, &'static Font> {
 /// Each side's call is counted twice, after one that is not. A line: table, call, font, what grows, side, and by how
 /// many the counts are to be divided; in the order of callgrind's files, the first of which is of a call of nothing.
 fn count(line: &Line, case: &mut dyn Case) {
-    for side in ["port", "beside"] {
-        let port = side == "port";
-        if !port && !line.paired() {
-            continue;
-        }
-        let call = &mut || if port { case.port() } else { case.beside() };
+    for &side in case.sides() {
+        let call = &mut || case.call(side);
         call();
         counter::count(call);
         counter::count(call);
-        println!("{}\t{}\t{}\t{}\t{}\t{}", line.table, line.call, line.font, line.at, side, case.per());
+        println!("{}\t{}\t{}", line.key(), side.told(), case.per());
     }
 }
 
-/// A line: table, call, font, what grows, nanoseconds of the port and of what it is measured beside, the ratio and its
+/// A line for each side: table, call, font, what grows, side, its nanoseconds, and the port's ratio to it with the
 /// quartiles.
 fn time(line: &Line, case: &mut dyn Case) {
-    let took = timing::time(case, line.paired());
     let per = case.per() as f64;
-    println!(
-        "{}\t{}\t{}\t{}\t{}\t{}\t{}\t{}\t{}",
-        line.table,
-        line.call,
-        line.font,
-        line.at,
-        took.port / per,
-        took.beside / per,
-        took.ratio,
-        took.lower,
-        took.upper
-    );
+    for (took, side) in timing::time(case).iter().zip(case.sides()) {
+        let ns = took.ns / per;
+        println!("{}\t{}\t{ns}\t{}\t{}\t{}", line.key(), side.told(), took.ratio, took.lower, took.upper);
+    }
+}
+
+/// A line: the sides that agree.
+fn told(case: &dyn Case) {
+    let sides: Vec<&str> = case.sides().iter().map(|side| side.told()).collect();
+    println!("{}", sides.join("\t"));
 }
 
 fn main() {
@@ -79,18 +76,15 @@ fn main() {
             continue;
         }
         let mut case = (line.make)(&fonts);
-        if mode == "count" {
-            count(&line, case.as_mut());
-            continue;
-        }
+        // before all else: what the port has not accepted is not for the loops in C, which test nothing
         if !case.same() {
-            eprintln!("{} of {} at {}: the two sides differ", line.call, line.font, line.at);
+            eprintln!("{} of {} at {}: the sides differ", line.call, line.font, line.at);
             process::exit(1);
         }
-        if mode == "time" {
-            time(&line, case.as_mut());
-        } else {
-            println!("{}", line.beside.told());
+        match mode {
+            "count" => count(&line, case.as_mut()),
+            "time" => time(&line, case.as_mut()),
+            _ => told(case.as_ref()),
         }
     }
 }

@@ -1,37 +1,18 @@
-//! What is measured: the lines of each table, with how a line's case is made.
-use crate::cases::{Case, Drawing, Font, Glyphs, Load, Lookup, NoBytes, Text, TextCheck, Unpacked, Vet};
+//! The lines of each table, with how a line's case is made.
+use crate::cases::{Case, Drawing, Font};
+use crate::glyphs::{Glyphs, Unpacked};
 use crate::orders::InOrder;
+use crate::reading::{Load, Lookup, NoBytes, Vet};
+use crate::texts::{Text, TextCheck};
 use std::collections::{BTreeSet, HashMap};
 
 /// 60 characters as a meter's panel may have them.
 const READING: &str = "Meter 12 345.678 kWh; water 3.07 m3; heating 21 C; total 948";
-/// What 000 does not have.
-const ALONE: [&str; 3] = ["text_check", "lookup, no bytes", "vet"];
 const SIZES: [&str; 3] = ["6x12", "8x16", "16x32"];
 const SCALES: [usize; 4] = [1, 2, 4, 8];
 
 type Fonts = HashMap<String, &'static Font>;
 type Make = Box<dyn Fn(&Fonts) -> Box<dyn Case>>;
-
-/// What the port is measured beside.
-#[derive(Clone, Copy, PartialEq)]
-pub enum Beside {
-    Original,
-    /// The port itself, with the font in the usual order of rows.
-    UsualOrder,
-    Nothing,
-}
-
-impl Beside {
-    /// How a check's line names it.
-    pub fn told(self) -> &'static str {
-        match self {
-            Beside::Original => "000",
-            Beside::UsualOrder => "usual order",
-            Beside::Nothing => "nothing",
-        }
-    }
-}
 
 pub struct Line {
     pub table: &'static str,
@@ -39,21 +20,20 @@ pub struct Line {
     pub font: String,
     /// The scale, 0 for a call that has none; in the tables of growth what grows.
     pub at: usize,
-    pub beside: Beside,
     pub make: Make,
 }
 
 impl Line {
-    pub fn paired(&self) -> bool {
-        self.beside != Beside::Nothing
+    /// What tells it from the others, with tabs between its parts.
+    pub fn key(&self) -> String {
+        format!("{}\t{}\t{}\t{}", self.table, self.call, self.font, self.at)
     }
 }
 
 fn line(table: &'static str, call: &'static str, font: &str, at: usize, make: impl CaseOf) -> Line {
     let name = font.to_string();
     let make: Make = Box::new(move |fonts| make(fonts[&name]));
-    let beside = if ALONE.contains(&call) { Beside::Nothing } else { Beside::Original };
-    Line { table, call, font: font.to_string(), at, beside, make }
+    Line { table, call, font: font.to_string(), at, make }
 }
 
 trait CaseOf: Fn(&'static Font) -> Box<dyn Case> + 'static {}
@@ -65,7 +45,7 @@ fn text_of(length: usize) -> String {
 
 fn drawing(all: &mut Vec<Line>) {
     for size in SIZES {
-        for scale in SCALES {
+        for scale in 1..=8 {
             all.push(line("calls", "draw_glyph", size, scale, move |f| Box::new(Glyphs::of(f, scale))));
         }
     }
@@ -137,7 +117,7 @@ fn line_in_order<C: Drawing + 'static>(
     let (font, usual) = (format!("{size}, {order}"), size.to_string());
     let other = font.clone();
     let make: Make = Box::new(move |fonts| Box::new(InOrder::of(fonts[&other], fonts[&usual], &case)));
-    Line { table: "orders", call, font, at, beside: Beside::UsualOrder, make }
+    Line { table: "orders", call, font, at, make }
 }
 
 fn other_order(all: &mut Vec<Line>, order: &str) {

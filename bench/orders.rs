@@ -1,6 +1,6 @@
 //! A font whose rows are in another order, beside the same font in the usual one. 000 does not draw the first, so both
 //! sides are the port.
-use crate::cases::{Case, Drawing, Font};
+use crate::cases::{Case, Drawing, Font, Side};
 
 pub struct InOrder<C> {
     other: C,
@@ -15,6 +15,10 @@ impl<C: Drawing> InOrder<C> {
 }
 
 impl<C: Drawing> Case for InOrder<C> {
+    fn sides(&self) -> &'static [Side] {
+        &[Side::Port, Side::UsualOrder]
+    }
+
     fn port(&mut self) {
         self.other.port();
     }
@@ -23,7 +27,7 @@ impl<C: Drawing> Case for InOrder<C> {
         self.usual.port();
     }
 
-    /// The usual order is compared with 000 too, so that two equal faults are seen.
+    /// The usual order is compared with its other sides too, so that two equal faults are seen.
     fn same(&mut self) -> bool {
         let drawn = self.other.drawn();
         drawn.is_some() && drawn == self.usual.drawn() && self.usual.same()

@@ -1,11 +1,12 @@
 #!/usr/bin/env python3
-"""Times the port against 000, the Rust original, and counts both sides' instructions, on the same calls.
+"""Times the port against 000, the Rust original, and against plain loops in C that test nothing, and counts each side's
+instructions, on the same calls.
 
     bench/run.py [--quick | --write] [--only CALL]
 
-Prints the tables; with --write puts them into docs/PERFORMANCE.md. With --quick each call is made once and the two
-sides' pixels and answers are compared, and nothing is timed. --only takes the lines of one call, as draw_string.
-A difference ends with status 1.
+Prints the tables; with --write puts them into docs/PERFORMANCE.md. With --quick each call is made once and the sides'
+pixels and answers are compared, and nothing is timed. --only takes the lines of one call, as draw_string. A difference
+ends with status 1.
 
 Rows in other orders than 000's, which it does not draw, are measured and compared beside the same rows in its order,
 both drawn by the port."""
@@ -24,6 +25,7 @@ PAGE = os.path.join(ROOT, "docs", "PERFORMANCE.md")
 MISC = "/usr/share/fonts/X11/misc"
 sys.path[:0] = [HERE, os.path.join(ROOT, "tests")]
 
+import goals  # noqa: E402
 import tables  # noqa: E402
 from common import install  # noqa: E402
 from native import library  # noqa: E402
@@ -47,7 +49,7 @@ ORDERS = {
 
 
 def tools():
-    """sees that what makes the library for this machine is there"""
+    """sees that what makes the library for this machine, and the loops in C, is there"""
     if not shutil.which("rt"):
         raise build.Missing("the Rattle kit's command 'rt' is not on the PATH")
     if not (shutil.which("gcc") and shutil.which("ar")):
@@ -87,9 +89,17 @@ def make_fonts(folder):
     return folder, with_glyph
 
 
+def plain():
+    """the loops in C, compiled for a program that may lie anywhere, as rustc makes it. Each function begins at a cache
+    line: where in one it begins, which otherwise all that is linked before decides, moved its times by a tenth"""
+    made = os.path.join(FOLDER, "plain.o")
+    library.run("gcc", "-O2", "-fPIE", "-falign-functions=64", "-c", os.path.join(HERE, "plain.c"), "-o", made)
+    return made
+
+
 def driver(archive):
     build.crate(FOLDER, os.path.join(ROOT, "tests", "original", "appended.rs"))
-    return build.program(FOLDER, os.path.join(HERE, "driver.rs"), archive)
+    return build.program(FOLDER, os.path.join(HERE, "driver.rs"), archive, "-C", "link-arg=" + plain())
 
 
 def said(*words):
@@ -133,21 +143,22 @@ def callgrind(program, fonts, only):
 
 
 def machine(what):
-    """the machine, the compiler and what was linked, in words"""
+    """the machine, the compilers and what was linked, in words"""
     model = "an unknown processor"
     if shutil.which("lscpu"):
         said_of = dict(line.split(":", 1) for line in subprocess.run(
             ["lscpu"], stdout=subprocess.PIPE, env={**os.environ, "LC_ALL": "C"}).stdout.decode().splitlines()
             if ":" in line)
         model = said_of.get("Model name", model).strip()
-    compiler = subprocess.run(["rustc", "--version"], stdout=subprocess.PIPE).stdout.decode().split(" (")[0]
-    return "Machine: %s, %s. Compiler of 000: %s, opt-level 3, without overflow checks. The port: %s." % (
-        platform.machine(), model, compiler, what)
+    rustc = subprocess.run(["rustc", "--version"], stdout=subprocess.PIPE).stdout.decode().split(" (")[0]
+    gcc = subprocess.run(["gcc", "-dumpfullversion"], stdout=subprocess.PIPE).stdout.decode().strip()
+    return ("Machine: %s, %s. Compiler of 000: %s, opt-level 3, without overflow checks; of the loops in C: gcc %s, "
+            "-O2. The port: %s." % (platform.machine(), model, rustc, gcc, what))
 
 
 def measure(program, fonts, only):
     counts = callgrind(program, fonts, only)
-    times = {tuple(line[:4]): tuple(map(float, line[4:])) for line in said(program, fonts, "time", *only)}
+    times = {tuple(line[:5]): tuple(map(float, line[5:])) for line in said(program, fonts, "time", *only)}
     return tables.Measured(times, counts)
 
 
@@ -155,7 +166,7 @@ def parts(what, measured, with_glyph):
     """title and text of each part, by the name of its mark in docs/PERFORMANCE.md"""
     made = {"machine": ("", machine(what))}
     for name, title, (heads, rows) in (
-            ("goals", "Goals", tables.goals(measured)),
+            ("goals", "Goals", goals.table(measured)),
             ("calls", "Calls", tables.calls(measured)),
             ("orders", "Rows in other orders, beside the usual one", tables.orders(measured)),
             ("length", "draw_string, 8x16, scale 1, wrapped after 40 characters", tables.length(measured)),
@@ -178,6 +189,14 @@ def write(made):
         page = page[:page.index(start) + len(start)] + text + "\n" + page[page.index(end):]
     with open(PAGE, "w", encoding="utf-8") as f:
         f.write(page)
+
+
+def agreement(cases):
+    """cases: the sides that agree in each"""
+    beside = [sum(side in case for case in cases) for side in (tables.ORIGINAL, tables.IN_C, tables.USUAL_ORDER)]
+    return ("bench: %d cases in which port and 000 agree, in %d of them the loops in C too, %d in which another order "
+            "of rows gives the usual one's pixels, and %d that the port alone has; not timed" % (
+                *beside, cases.count([tables.PORT])))
 
 
 def options():
@@ -206,10 +225,7 @@ def main():
     except (library.Failed, RuntimeError) as failed:
         sys.exit("bench: %s" % failed)
     if asked.quick:
-        beside = [line[0] for line in said(program, fonts, "check", *only)]
-        counts = tuple(map(beside.count, ("000", "usual order", "nothing")))
-        print("bench: %d cases in which both sides agree, %d in which another order of rows gives the usual one's "
-              "pixels, and %d that the port alone has; not timed" % counts)
+        print(agreement(said(program, fonts, "check", *only)))
         return
     made = parts(what, measure(program, fonts, only), with_glyph)
     print("\n\n".join("\n\n".join(filter(None, part)) for part in made.values()))

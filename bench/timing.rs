@@ -1,7 +1,7 @@
-//! The time of the processor that a call takes, in batches that alternate between the two sides.
-use crate::cases::Case;
+//! The time of the processor that a call takes, in batches that alternate between its sides.
+use crate::cases::{Case, Side};
 
-const PAIRS: usize = 41;
+const ROUNDS: usize = 41;
 /// A batch lasts about so long, in nanoseconds.
 const BATCH: f64 = 4e6;
 /// Linux's number of the clock that counts a process's own time.
@@ -26,32 +26,36 @@ fn now() -> f64 {
     time.seconds as f64 * 1e9 + time.nanoseconds as f64
 }
 
-/// Nanoseconds for a call, the median; of the ratios of pairs the median and the quartiles.
+/// A side's nanoseconds for a call, the median; of the ratios of the port's to them, each of one round, the median and
+/// the quartiles.
 pub struct Took {
-    pub port: f64,
-    pub beside: f64,
+    pub ns: f64,
     pub ratio: f64,
     pub lower: f64,
     pub upper: f64,
 }
 
-fn batch(case: &mut dyn Case, port: bool, calls: usize) -> f64 {
+impl Took {
+    fn of(port: &[f64], side: &[f64]) -> Took {
+        let ratios = sorted(port.iter().zip(side).map(|(one, other)| one / other).collect());
+        let [lower, ratio, upper] = [1, 2, 3].map(|quarter| at_quarter(&ratios, quarter));
+        Took { ns: at_quarter(&sorted(side.to_vec()), 2), ratio, lower, upper }
+    }
+}
+
+fn batch(case: &mut dyn Case, side: Side, calls: usize) -> f64 {
     let start = now();
     for _ in 0..calls {
-        if port {
-            case.port();
-        } else {
-            case.beside();
-        }
+        case.call(side);
     }
     (now() - start) / calls as f64
 }
 
 /// How many calls of a side make a batch.
-fn batch_size(case: &mut dyn Case, port: bool) -> usize {
+fn batch_size(case: &mut dyn Case, side: Side) -> usize {
     let mut calls = 1;
     loop {
-        let took = batch(case, port, calls) * calls as f64;
+        let took = batch(case, side, calls) * calls as f64;
         if took > BATCH / 4.0 {
             return ((BATCH / took * calls as f64) as usize).max(1);
         }
@@ -68,27 +72,17 @@ fn sorted(mut numbers: Vec<f64>) -> Vec<f64> {
     numbers
 }
 
-pub fn time(case: &mut dyn Case, paired: bool) -> Took {
-    let sizes = [true, false].map(|port| if port || paired { batch_size(case, port) } else { 0 });
-    let (mut port, mut beside) = (Vec::new(), Vec::new());
-    for pair in 0..PAIRS {
-        // which side is first alternates too
-        for side in [pair % 2 == 0, pair % 2 == 1] {
-            if side {
-                port.push(batch(case, true, sizes[0]));
-            } else if paired {
-                beside.push(batch(case, false, sizes[1]));
-            }
+/// In the order of the case's sides, of which the first is the port.
+pub fn time(case: &mut dyn Case) -> Vec<Took> {
+    let sides = case.sides();
+    let sizes: Vec<usize> = sides.iter().map(|&side| batch_size(case, side)).collect();
+    let mut batches = vec![Vec::new(); sides.len()];
+    for round in 0..ROUNDS {
+        for turn in 0..sides.len() {
+            // each round begins with another side
+            let k = (round + turn) % sides.len();
+            batches[k].push(batch(case, sides[k], sizes[k]));
         }
     }
-    let ratios = sorted(port.iter().zip(&beside).map(|(one, other)| one / other).collect());
-    let of = |numbers: Vec<f64>| if paired { at_quarter(&numbers, 2) } else { 0.0 };
-    let quarters = [1, 2, 3].map(|quarter| if paired { at_quarter(&ratios, quarter) } else { 0.0 });
-    Took {
-        port: at_quarter(&sorted(port), 2),
-        beside: of(sorted(beside)),
-        ratio: quarters[1],
-        lower: quarters[0],
-        upper: quarters[2],
-    }
+    batches.iter().map(|side| Took::of(&batches[0], side)).collect()
 }

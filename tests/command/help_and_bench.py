@@ -19,7 +19,8 @@ def benched(folder):
         got = run("bench", *words, folder=folder)
         expect("bench %s" % words, got, 2, b"", "bench takes --quick, --write or nothing")
     got = run("bench", "--quick", folder=folder)
-    counted = (rb"[1-9]\d* cases in which both sides agree, [1-9]\d* in which another order of rows gives the usual "
-               rb"one's pixels, and [1-9]\d* that the port alone has; not timed")
+    counted = (rb"[1-9]\d* cases in which port and 000 agree, in [1-9]\d* of them the loops in C too, [1-9]\d* in "
+               rb"which another order of rows gives the usual one's pixels, and [1-9]\d* that the port alone has; "
+               rb"not timed")
     words = rb"bench: (%s|not run, because .*)\n" % counted
     expect("a quick bench", got, 0, got.stdout if re.fullmatch(words, got.stdout) else b"bench: ..", None)
