@@ -14,11 +14,11 @@ module _ (len start offset size : ℕ) where
   start-past h = sym (lt-leb (start + offset + size) len (omega arith))
 
   module _ (h : start ≤ len) where
-    pub offset-past : len - start < offset → false ≡ leb (start + offset + size) len
-    offset-past l = sym (lt-leb (start + offset + size) len (omega arith))
+    pub size-past : len - start < size → false ≡ leb (start + offset + size) len
+    size-past l = sym (lt-leb (start + offset + size) len (omega arith))
 
-    pub size-left : offset ≤ len - start → leb size (len - start - offset) ≡ leb (start + offset + size) len
-    size-left l = same-leb size (len - start - offset) (start + offset + size) len (λ k. omega arith) (λ k. omega arith)
+    pub offset-left : size ≤ len - start → leb offset (len - start - size) ≡ leb (start + offset + size) len
+    offset-left l = same-leb offset (len - start - size) (start + offset + size) len (λ k. omega arith) (λ k. omega arith)
 
   module _ (lies : Bool) (lies-is : lies ≡ leb (start + offset + size) len) where
     module _ (t : lies ≡ true) where

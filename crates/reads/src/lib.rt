@@ -62,17 +62,17 @@ fn digits_at(s: &[u8], at: usize, width: usize, big: bool) -> u32
 }
 
 // Whether `size` bytes lie in `len`, from `offset` bytes after `start` on. By subtraction, so that no
-// sum is formed that might not fit.
+// sum is formed that might not fit; the size first, which is a number that the compiler knows.
 pub fn lies_in(len: usize, start: usize, offset: usize, size: usize) -> bool
     ensures { λ r. ⌜ r ≡ leb (start + offset + size) len ⌝ }
 {
     if len < start {
         return false;
     }
-    if len - start < offset {
+    if len - start < size {
         return false;
     }
-    size <= len - start - offset
+    offset <= len - start - size
 }
 
 // The number of `width` bytes, `offset` bytes after `start`; 0 where they do not all lie in the

@@ -1,5 +1,5 @@
 -- Each subtraction is of what the tests before it left, so none wraps and all of them test the whole sum.
-use Rattle.reads.proofs.Lies.{start-past, offset-past, size-left}
+use Rattle.reads.proofs.Lies.{start-past, size-past, offset-left}
 use borrow.Author.Needs.{needs}
 use Rattle.reads.proofs.lies_in.Statement.{statement}
 use Rattle.reads.proofs.lies_in.Tie as tie
@@ -9,6 +9,6 @@ lies-in-spec =
     tie.close
     (tie.spec
     (λ c. search start-past)  -- returns
-    (λ c. search offset-past)  -- returns-2
+    (λ c. search size-past)  -- returns-2
     (λ c. search needs)  -- sub-result
-    (λ c. search size-left))  -- returns-3
+    (λ c. search offset-left))  -- returns-3
