@@ -12,11 +12,13 @@ use lib.ListN.{length}
 use borrow.Author.Tests.{leb-true, le-leb, lt-leb}
 use Rattle.reads.specs.Said.{refusal}
 use Rattle.reads.specs.declared.Refusal.{Refusal}
+use Rattle.reads.proofs.Tests.{never}
 use Rattle.tables.specs.Fits.{recordFits, guard, ladder}
 use Rattle.tables.proofs.Guarded.{passes, guarded-answers, guarded-refuses}
 use Rattle.tables.specs.declared.MetricsUnpacked.{MetricsUnpacked}
 use Rattle.tables.specs.declared.Permit.{Permit}
 use Rattle.tables.specs.declared.Record.{Record}
+use Rattle.bitmaps.specs.Paint.{painted}
 use Rattle.bitmaps.specs.Place.{placeAt}
 use Rattle.bitmaps.specs.Limits.{okPlace}
 use Rattle.outcome.proofs.Sizes.{within}
@@ -30,11 +32,13 @@ use Rattle.utf8.specs.Decode.{Decoded, chars, refused, decoded, charsOf, checke
 use Rattle.utf8.specs.declared.Checked.{Checked}
 use Rattle.utf8.proofs.Walk.{checked-whole, checked-refused}
 use Rattle.text.specs.Walk.{origin, lineHeight}
-use Rattle.text.specs.Text.{textFrom, readyText, ready, drawString}
-use Rattle.text.specs.Within.{Settled, Readable}
+use Rattle.text.specs.Text.{textFrom, inText, readyText, ready, drawString}
+use Rattle.text.specs.Within.{Settled, Readable, inked, Inkable}
 use Rattle.text.specs.declared.Layout.{Layout}
 use Rattle.text.specs.declared.Ready.{Ready}
 use Rattle.text.specs.declared.TextDrawn.{TextDrawn}
+use Rattle.text.specs.declared.TextRows.{TextRows}
+use Rattle.text.proofs.Passes.{no-ink, all-ink}
 
 not-line : (n line : ℕ) → Ready.Refused (refusal n 0) ≡ Ready.Line line → ⊥
 not-line n line e = let z : _≡_ {A = ℕ} 0 1 = cc in omega arith
@@ -166,3 +170,25 @@ module _ (s : List ℕ) (rec : Record) (text : List ℕ) (lay : Layout) (len : �
 
     pub string-answers : (r : TextDrawn) → answer ≡ r → r ≡ drawString s rec text len lay
     string-answers r h = sym h ∙ string-answered
+
+-- what the two passes leave, the first without ink and the second with it
+
+module _ (s : List ℕ) (rec : Record) (text : List ℕ) (lay : Layout) (len colour : ℕ) (old dry : List ℕ)
+    (dry-is : dry ≡ painted (inked false (inText s rec lay len (charsOf (decoded text)) origin)) colour old) where
+  abbrev rule : ℕ → Bool
+  rule = inText s rec lay len (charsOf (decoded text)) origin
+
+  pub dry-left : dry ≡ old
+  dry-left = dry-is ∙ no-ink rule colour old
+
+  pub pass-left : (new : List ℕ) → new ≡ painted (inked true (inText s rec lay len (charsOf (decoded text)) origin)) colour dry → len ≡ length old
+      → new ≡ painted (inText s rec lay (length old) (charsOf (decoded text)) origin) colour old
+  pass-left new is same = rw (← same) (is ∙ all-ink rule colour dry ∙ ap (painted rule colour) dry-left)
+
+  pub inkable : (answer : TextDrawn) (rows : TextRows) → answer ≡ textFrom s rec lay len (charsOf (decoded text)) origin 0 → answer ≡ TextDrawn.Done rows
+      → len ≡ length old → Inkable true s rec lay len text (length dry)
+  inkable answer rows answer-is e same = record { lent = record { same = λ t. same ∙ ap length (sym dry-left) }; done = λ t. (rows, sym answer-is ∙ e) }
+
+-- a pass without ink asks nothing of its buffer
+pub no-ink-asked : (s : List ℕ) (rec : Record) (lay : Layout) (len : ℕ) (text : List ℕ) (pixels : ℕ) → Inkable false s rec lay len text pixels
+no-ink-asked s rec lay len text pixels = record { lent = record { same = λ e. never e }; done = λ e. never e }

@@ -1,22 +1,42 @@
--- One turn of each pass over a text: the whole answer is that of the characters that are left, and the whole colouring is colouring what
+-- One turn of a pass over a text: the whole answer is that of the characters that are left, and the whole colouring is colouring what
 -- was placed and then what is left.
 use Prim.Native.Nat.{ℕ, _+_}
-use mathlib.Core.Path.{_≡_, refl, ap, _∙_}
+use mathlib.Core.Path.{_≡_, refl, sym, ap, _∙_}
+use mathlib.Core.Bool.{Bool, true, false, _&&_}
 use mathlib.Core.List.{List, [], _∷_}
+use native.Mathlib.Omega.{arith}
 use Rattle.reads.specs.Said.{refusal}
 use Rattle.reads.specs.declared.Refusal.{Refusal}
 use Rattle.tables.specs.declared.Record.{Record}
 use Rattle.bitmaps.specs.Paint.{painted}
 use Rattle.bitmaps.specs.declared.Drawn.{Drawn}
 use Rattle.bitmaps.specs.declared.Rows.{Rows}
+use Rattle.bitmaps.proofs.Searching.{and-none}
 use Rattle.bitmaps.proofs.Painting.{painted-none, painted-or}
 use Rattle.utf8.specs.Decode.{Char}
 use Rattle.text.specs.Walk.{lineHeight, placed, placedDrawn, penAfter, inPlaced}
 use Rattle.text.specs.Text.{afterChar, textFrom, inText}
+use Rattle.text.specs.Within.{inked}
 use Rattle.text.specs.declared.Layout.{Layout}
 use Rattle.text.specs.declared.Pen.{Pen}
 use Rattle.text.specs.declared.Placed.{Placed}
 use Rattle.text.specs.declared.TextDrawn.{TextDrawn}
+use Rattle.text.specs.declared.TextRows.{TextRows}
+
+pub is-done : (t : TextRows) (r : Refusal) → TextDrawn.Refused r ≡ TextDrawn.Done t → ⊥
+is-done t r e = let z : _≡_ {A = ℕ} 0 1 = cc in omega arith
+
+-- without ink nothing is coloured, and with it what the rule has
+pub no-ink : (rule : ℕ → Bool) (colour : ℕ) (old : List ℕ) → painted (inked false rule) colour old ≡ old
+unfolding inked
+no-ink rule colour old = painted-none (λ k. false) colour old (λ i h. refl)
+
+pub dry : (ink : Bool) (rule : ℕ → Bool) (colour : ℕ) (old : List ℕ) → ink ≡ false → painted (inked ink rule) colour old ≡ old
+dry ink rule colour old e = rw e (no-ink rule colour old)
+
+pub all-ink : (rule : ℕ → Bool) (colour : ℕ) (old : List ℕ) → painted (inked true rule) colour old ≡ painted rule colour old
+unfolding inked
+all-ink rule colour old = refl
 
 module _ (s : List ℕ) (rec : Record) (lay : Layout) (len : ℕ) (cs : List Char) (pen : Pen) where
   -- no character is left
@@ -25,9 +45,9 @@ module _ (s : List ℕ) (rec : Record) (lay : Layout) (len : ℕ) (cs : List Cha
   unfolding textFrom
   answer-end dropped e = rw e refl
 
-  pub ink-end : (colour : ℕ) (old : List ℕ) → cs ≡ [] → painted (inText s rec lay len cs pen) colour old ≡ old
-  unfolding inText
-  ink-end colour old e = rw e (painted-none (λ k. inText s rec lay len [] pen k) colour old (λ i h. refl))
+  pub ink-end : (ink : Bool) (colour : ℕ) (old : List ℕ) → cs ≡ [] → painted (inked ink (inText s rec lay len cs pen)) colour old ≡ old
+  unfolding inked inText
+  ink-end ink colour old e = rw e (painted-none (λ k. ink && false) colour old (λ i h. and-none ink false refl))
 
   -- a character was placed so
   module _ (i code : ℕ) (rest : List Char) (e : cs ≡ record { byte = i; code = code } ∷ rest) (p : Placed) (is : p ≡ placed s rec lay code pen) where
@@ -46,7 +66,12 @@ module _ (s : List ℕ) (rec : Record) (lay : Layout) (len : ℕ) (cs : List Cha
     answer-stop dropped r d =
         turn dropped ∙ ap (λ (x : Drawn). afterChar x i (λ more. textFrom s rec lay len rest (penAfter lay p pen) (dropped + more))) d
 
-    pub ink-on : (colour : ℕ) (old : List ℕ)
-        → painted (inText s rec lay len cs pen) colour old ≡ painted (inText s rec lay len rest (penAfter lay p pen)) colour (painted (inPlaced s rec lay len p) colour old)
-    unfolding inText
-    ink-on colour old = rw (e, is) (painted-or (inPlaced s rec lay len (placed s rec lay code pen)) (inText s rec lay len rest (penAfter lay (placed s rec lay code pen) pen)) colour old)
+    pub ink-on : (ink : Bool) (colour : ℕ) (old : List ℕ) → painted (inked ink (inText s rec lay len cs pen)) colour old
+        ≡ painted (inked ink (inText s rec lay len rest (penAfter lay p pen))) colour (painted (inked ink (inPlaced s rec lay len p)) colour old)
+    unfolding inked inText
+    ink-on true colour old =
+        rw (e, is)
+        (painted-or (inPlaced s rec lay len (placed s rec lay code pen)) (inText s rec lay len rest (penAfter lay (placed s rec lay code pen) pen)) colour old)
+    ink-on false colour old =
+        no-ink (inText s rec lay len cs pen) colour old
+        ∙ sym (no-ink (inText s rec lay len rest (penAfter lay p pen)) colour (painted (inked false (inPlaced s rec lay len p)) colour old) ∙ no-ink (inPlaced s rec lay len p) colour old)

@@ -1,7 +1,7 @@
 -- What was placed, drawn: its answer, and that what drawing leaves in the buffer is the colouring of its pixels, none of a glyph that is refused.
 use Prim.Native.Nat.{ℕ}
 use mathlib.Core.Path.{_≡_, refl, sym, _∙_}
-use mathlib.Core.Bool.{false}
+use mathlib.Core.Bool.{Bool, true, false}
 use mathlib.Core.List.{List}
 use lib.ListN.{length}
 use Rattle.reads.specs.Said.{refusal}
@@ -16,9 +16,11 @@ use Rattle.place.specs.declared.GlyphInfo.{GlyphInfo}
 use Rattle.glyphs.specs.Glyph.{placeOf, nothingDrawn, glyphDrawn}
 use Rattle.glyphs.proofs.Far.{nothing-leaves}
 use Rattle.text.specs.Walk.{spot, rowsIn, placedDrawn, inPlaced}
+use Rattle.text.specs.Within.{inked, Lent}
 use Rattle.text.specs.declared.Layout.{Layout}
 use Rattle.text.specs.declared.Pen.{Pen}
 use Rattle.text.specs.declared.Placed.{Placed}
+use Rattle.text.proofs.Passes.{no-ink, all-ink}
 
 shown-by-rows : (s : List ℕ) (b : BitmapData) (g width : ℕ) (at : Place) (colour : ℕ) (r : Drawn) (old : List ℕ)
     → shownLeaves s b g width at colour r old ≡ painted (inGlyph s b g width at (rowsIn r)) colour old
@@ -54,3 +56,15 @@ module _ (s : List ℕ) (rec : Record) (lay : Layout) (p : Placed) where
     shown-glyph q i start after r e is d shown =
         shown ∙ shown-by-rows s (rec .bitmaps) (i .glyph .0) (i .width) (placeOf i (placeAt start (lay .stride) (lay .scale))) colour r old
         ∙ rw (e, d, is) refl
+
+-- with ink or without
+module _ (s : List ℕ) (rec : Record) (lay : Layout) (len : ℕ) (p : Placed) (ink : Bool) (colour : ℕ) (old : List ℕ) where
+  pub inked-answer : (r : Drawn) → ink ≡ true → Lent ink len (length old) → r ≡ placedDrawn s rec lay (length old) p → r ≡ placedDrawn s rec lay len p
+  inked-answer r e lent is = rw (lent .same e) is
+
+  pub inked-pixels : (after : List ℕ) → ink ≡ true → Lent ink len (length old) → after ≡ painted (inPlaced s rec lay (length old) p) colour old
+      → after ≡ painted (inked ink (inPlaced s rec lay len p)) colour old
+  inked-pixels after e lent shown = rw (e, lent .same e) (shown ∙ sym (all-ink (inPlaced s rec lay (length old) p) colour old))
+
+  pub dry-pixels : ink ≡ false → old ≡ painted (inked ink (inPlaced s rec lay len p)) colour old
+  dry-pixels e = rw e (sym (no-ink (inPlaced s rec lay len p) colour old))

@@ -1,7 +1,6 @@
 // Texts: the pen walks over the characters, and each glyph is drawn where the pen stands. The walk is
 // made twice, so that nothing is coloured where a later character is refused.
-mod answer;
-mod ink;
+mod pass;
 mod string;
 mod walk;
 

@@ -3,8 +3,7 @@ use crate::Layout;
 use crate::Ready;
 use crate::TextDrawn;
 use crate::Wrap;
-use crate::answer::text_rows;
-use crate::ink::show_text;
+use crate::pass::text_pass;
 use outcome::ok_place;
 use place::Sized;
 use place::bounds_sized;
@@ -74,7 +73,10 @@ pub fn text_check(
     };
     let ready = ready_for(bytes, rec, text, lay);
     match ready {
-        Ready::Line(line) => text_rows(bytes, rec, lay, line, len, text),
+        Ready::Line(line) => {
+            let mut no_pixel = [0; 1];
+            text_pass(bytes, rec, lay, line, len, &mut no_pixel, text, false, 0)
+        }
         Ready::Refused(r) => TextDrawn::Refused(r),
     }
 }
@@ -115,10 +117,11 @@ pub fn draw_string(
     let ready = ready_for(bytes, rec, text, lay);
     match ready {
         Ready::Line(line) => {
-            let answer = text_rows(bytes, rec, lay, line, buf.len(), text);
+            let len = buf.len();
+            let answer = text_pass(bytes, rec, lay, line, len, &mut *buf, text, false, colour);
             match answer {
                 TextDrawn::Done(rows) => {
-                    show_text(bytes, rec, lay, line, &mut *buf, text, colour);
+                    text_pass(bytes, rec, lay, line, len, &mut *buf, text, true, colour);
                     TextDrawn::Done(rows)
                 }
                 TextDrawn::Refused(r) => TextDrawn::Refused(r),
