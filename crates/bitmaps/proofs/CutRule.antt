@@ -15,10 +15,10 @@ module _ (len : ℕ) (at : Place) (height : ℕ) where
   pub drawn-all : height ≤ linesFrom len at / at .scale * at .scale → drawnRows len at height ≡ height
   drawn-all h = min-eq-left h
 
-  -- nor where the lines that the buffer has are as many as the rows and one group more
-  pub drawn-room : 1 ≤ at .stride → 1 ≤ at .scale → (height + at .scale) * at .stride ≤ len - at .p → drawnRows len at height ≡ height
+  -- nor where the lines that the buffer has are as many as the rows and a group but one
+  pub drawn-room : 1 ≤ at .stride → 1 ≤ at .scale → (height + (at .scale - 1)) * at .stride ≤ len - at .p → drawnRows len at height ≡ height
   drawn-room a b h =
-      let lines : height + at .scale ≤ linesFrom len at = le-div-iff-mul-le a .1 h in
+      let lines : height + (at .scale - 1) ≤ linesFrom len at = le-div-iff-mul-le a .1 h in
       drawn-all (omega (arith, lines, div-add-mod' (linesFrom len at) (at .scale), mod-lt (linesFrom len at) {m = at .scale} b))
 
   -- a line that the buffer has only in part does not count

@@ -6,15 +6,16 @@ pub mod CutRule
 pub mod UnitBits
 pub mod RowEnds
 pub mod ShownBytes
+pub mod SetBits
 pub mod DataBytes
 pub mod RowsInside
 pub mod LastByte
 pub mod Shift
 pub mod InFile
 pub mod FourteenFirst
-pub mod RowBits
 pub mod WholeBytes
 pub mod NoDots
 pub mod PictureRows
+pub mod Strips
 pub mod LentRows
 pub mod UsualOrder

@@ -1,7 +1,7 @@
 -- What colouring does: it changes exactly the places that its rule has. Colouring twice, one store, and a buffer whose end was lent.
 use Prim.Native.Nat.{ℕ, zero, suc, _+_, _-_, _≤_, _<_, suc-le-suc}
 use mathlib.Core.Path.{_≡_, refl, sym, ap, ap₂, _∙_}
-use mathlib.Core.Bool.{Bool, true, false, cond, _&&_, _||_, or-self}
+use mathlib.Core.Bool.{Bool, true, false, cond, _||_, or-self}
 use mathlib.Core.List.{List, [], _∷_, _++_, append-nil}
 use native.Mathlib.Nat.{le-of-eq, le-of-suc-le-suc, not-suc-le-zero, zero-lt-suc, suc-add, zero-add}
 use native.Mathlib.Numerals.{add-one}
@@ -94,13 +94,6 @@ pub painted-more : (f : ℕ → ℕ → Bool) (n colour : ℕ) (old : List ℕ)
     → painted (λ i. f i n) colour (painted (λ i. some n (f i)) colour old) ≡ painted (λ i. some (n + 1) (f i)) colour old
 unfolding some
 painted-more f n colour old = rw add-one (sym (painted-or (λ i. some n (f i)) (λ i. f i n) colour old))
-
--- a rule under a test that passes, and under one that does not
-pub painted-on : (b : Bool) (p : ℕ → Bool) (colour : ℕ) (old : List ℕ) → b ≡ true → painted p colour old ≡ painted (λ i. b && p i) colour old
-painted-on b p colour old e = painted-same p (λ i. b && p i) colour old (λ i h. sym (ap (λ (t : Bool). t && p i) e))
-
-pub painted-off : (b : Bool) (p : ℕ → Bool) (colour : ℕ) (old : List ℕ) → b ≡ false → old ≡ painted (λ i. b && p i) colour old
-painted-off b p colour old e = sym (painted-none (λ i. b && p i) colour old (λ i h. ap (λ (t : Bool). t && p i) e))
 
 -- the buffer's end from s on, coloured by itself, colours the whole by the rule moved by s
 pub painted-tail : (s colour : ℕ) (p q : ℕ → Bool) (old : List ℕ) → ((i : ℕ) → i < s → q i ≡ false) → ((j : ℕ) → q (s + j) ≡ p j)

@@ -1,14 +1,14 @@
 -- A search in pieces: what is found among the first numbers, and among those from there on.
-use Prim.Native.Nat.{ℕ, zero, suc, _+_, _-_, _<_, min}
+use Prim.Native.Nat.{ℕ, zero, suc, _+_, min}
 use mathlib.Core.Path.{_≡_, sym, ap, _∙_}
-use mathlib.Core.Bool.{Bool, false, _&&_, _||_, or-false, or-assoc}
+use mathlib.Core.Bool.{Bool, _&&_, _||_, or-false, or-assoc}
 use native.Mathlib.Nat.{add-zero, add-suc}
 use native.Mathlib.Omega.{arith}
 use lib.Dec.{ltb}
 use borrow.Author.Tests.{ltb-true, lt-ltb}
 use Rattle.reads.proofs.Tests.{both}
 use Rattle.bitmaps.specs.Paint.{some}
-use Rattle.bitmaps.proofs.Searching.{and-true, same-test, some-true, some-witness, some-false, some-none, some-same}
+use Rattle.bitmaps.proofs.Searching.{and-true, same-test, some-true, some-witness}
 
 -- what is found below m + n is found below m or among the n numbers from m on
 pub some-pieces : (m n : ℕ) (f : ℕ → Bool) → some (m + n) f ≡ some m f || some n (λ k. f (m + k))
@@ -29,17 +29,3 @@ some-cut n m f =
     (λ e.
     let (k, h, t) = some-witness (min n m) f e in
     some-true n (λ k. ltb k m && f k) k (omega arith) (and-true (ltb k m) (f k) (lt-ltb k m (omega arith)) t))
-
--- a search up to a width, eight numbers farther
-module _ (f g : ℕ → Bool) (c width : ℕ) (h : c < width) (same : (k : ℕ) → k < 8 → g k ≡ (ltb k (width - c) && f (c + k))) where
-  eight : some 8 g ≡ some (min 8 (width - c)) (λ k. f (c + k))
-  eight = some-same 8 g (λ k. ltb k (width - c) && f (c + k)) same ∙ some-cut 8 (width - c) (λ k. f (c + k))
-
-  pub eight-more : some (min (c + 8) width) f ≡ some c f || some 8 g
-  eight-more =
-      let e : min (c + 8) width ≡ c + min 8 (width - c) = omega arith in
-      ap (λ (k : ℕ). some k f) e ∙ some-pieces c (min 8 (width - c)) f ∙ ap (λ (t : Bool). some c f || t) (sym eight)
-
-  -- where nothing is found up to the width, the eight find nothing
-  pub eight-none : some width f ≡ false → some 8 g ≡ false
-  eight-none e = eight ∙ some-none (min 8 (width - c)) (λ k. f (c + k)) (λ k l. some-false width f e (c + k) (omega arith))

@@ -9,12 +9,12 @@ use native.Mathlib.Omega.{arith}
 use lib.Dec.{eqb, ltb}
 use borrow.Author.Tests.{eqb-true, eqb-false, ne-eqb, ltb-true, ltb-false}
 use Rattle.reads.specs.Num.{digitIndex}
-use Rattle.reads.proofs.Tests.{never, split}
+use Rattle.reads.proofs.Tests.{either, never, split}
 use Rattle.bitmaps.specs.Units.{unitBytes, byteOf}
 use Rattle.bitmaps.specs.Rows.{rowBytes, rowEnd}
 use Rattle.bitmaps.specs.Unpack.{wholeColumns}
 use Rattle.bitmaps.specs.declared.Order.{Order}
-use Rattle.bitmaps.proofs.UnitBits.{unit-some, eight-held, same-held}
+use Rattle.bitmaps.proofs.UnitBits.{unit-some, index-in, eight-held, same-held}
 
 module _ (o : Order) where
   -- each column's byte lies before it
@@ -49,6 +49,9 @@ module _ (o : Order) where
 pub four-bytes : (code : ℕ) → (code ≡ 0 → ⊥) → (code ≡ 1 → ⊥) → unitBytes code ≡ 4
 four-bytes code e f = rw (ne-eqb code 0 e, ne-eqb code 1 f) refl
 
+four-most : (code : ℕ) → unitBytes code ≤ 4
+four-most code = either (λ (n : ℕ). n ≤ 4) (eqb code 0) (omega arith) (either (λ (n : ℕ). n ≤ 4) (eqb code 1) (omega arith) (omega arith))
+
 -- counted twice from the same end, or once from the other
 index-twice : (a b : Bool) (w v : ℕ) → v < w → Bool·beq a b ≡ true → digitIndex a w (digitIndex b w v) ≡ v
 index-twice true true w v h e = refl
@@ -65,6 +68,14 @@ index-once false false w v e = never (sym e)
 module _ (o : Order) (j : ℕ) where
   eight : byteOf o (8 * j) ≡ j / unitBytes (o .unit) * unitBytes (o .unit) + digitIndex (o .big) (unitBytes (o .unit)) (digitIndex (o .top) (unitBytes (o .unit)) (j % unitBytes (o .unit)))
   eight = let e : 8 * j ≡ 8 * j + 0 = omega arith in rw e (eight-held o j 0 (omega arith))
+
+  -- not far from the place that the columns have
+  pub held-below : byteOf o (8 * j) < j + 4
+  held-below =
+      let w = unitBytes (o .unit) in
+      let some = unit-some (o .unit) in
+      let inside = index-in (o .big) w (digitIndex (o .top) w (j % w)) (index-in (o .top) w (j % w) (mod-lt j some)) in
+      omega (arith, eight, inside, div-mul-le-self j w, four-most (o .unit))
 
   -- bytes in the order of the columns
   pub held-straight : Bool·beq (o .big) (o .top) ≡ true → byteOf o (8 * j) ≡ j

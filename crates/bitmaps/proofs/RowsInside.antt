@@ -13,23 +13,33 @@ use Rattle.bitmaps.specs.Paint.{some}
 use Rattle.bitmaps.specs.Units.{orderOf, byteOf}
 use Rattle.bitmaps.specs.Rows.{bytesPast}
 use Rattle.bitmaps.specs.Picture.{bitsOf, rowOf, rowsShort}
+use Rattle.bitmaps.specs.declared.Order.{Order}
 use Rattle.bitmaps.proofs.Searching.{some-true, some-witness}
 
-module _ (s : List ℕ) (b : BitmapData) (g width n : ℕ) where
+module _ (size : ℕ) (o : Order) (row : ℕ → ℕ) (width n : ℕ) where
   abbrev past : ℕ → ℕ → Bool
-  past r c = leb (length (bitsOf s b)) (rowOf s b g width r + byteOf (orderOf b) c)
+  past r c = leb size (row r + byteOf o c)
 
-  pub rows-inside : rowsShort s b g width n ≡ false → (r c : ℕ) → r < n → c < width → rowOf s b g width r + byteOf (orderOf b) c < length (bitsOf s b)
-  unfolding rowsShort bytesPast
-  rows-inside e r c h l =
+  pub bytes-inside : bytesPast size o row width n ≡ false → (r c : ℕ) → r < n → c < width → row r + byteOf o c < size
+  unfolding bytesPast
+  bytes-inside e r c h l =
       split (past r c) (λ t. never (sym e ∙ some-true n (λ r. some width (past r)) r h (some-true width (past r) c l t)))
-      (λ t. leb-false (length (bitsOf s b)) (rowOf s b g width r + byteOf (orderOf b) c) t)
+      (λ t. leb-false size (row r + byteOf o c) t)
 
-  pub inside-rows : ((r c : ℕ) → r < n → c < width → rowOf s b g width r + byteOf (orderOf b) c < length (bitsOf s b)) → rowsShort s b g width n ≡ false
-  unfolding rowsShort bytesPast
-  inside-rows f =
+  pub inside-bytes : ((r c : ℕ) → r < n → c < width → row r + byteOf o c < size) → bytesPast size o row width n ≡ false
+  unfolding bytesPast
+  inside-bytes f =
       split (some n (λ r. some width (past r)))
       (λ t. let (r, h, found) = some-witness n (λ r. some width (past r)) t in
       let (c, l, e) = some-witness width (past r) found in
-      absurd (omega (arith, f r c h l, leb-true (length (bitsOf s b)) (rowOf s b g width r + byteOf (orderOf b) c) e)))
+      absurd (omega (arith, f r c h l, leb-true size (row r + byteOf o c) e)))
       (λ t. t)
+
+module _ (s : List ℕ) (b : BitmapData) (g width n : ℕ) where
+  pub rows-inside : rowsShort s b g width n ≡ false → (r c : ℕ) → r < n → c < width → rowOf s b g width r + byteOf (orderOf b) c < length (bitsOf s b)
+  unfolding rowsShort
+  rows-inside e = bytes-inside (length (bitsOf s b)) (orderOf b) (rowOf s b g width) width n e
+
+  pub inside-rows : ((r c : ℕ) → r < n → c < width → rowOf s b g width r + byteOf (orderOf b) c < length (bitsOf s b)) → rowsShort s b g width n ≡ false
+  unfolding rowsShort
+  inside-rows f = inside-bytes (length (bitsOf s b)) (orderOf b) (rowOf s b g width) width n f

@@ -1,5 +1,5 @@
 -- What `some` means: a search finds exactly where there is something to find.
-use Prim.Native.Nat.{ℕ, zero, suc, _+_, _≤_, _<_}
+use Prim.Native.Nat.{ℕ, zero, suc, _+_, _<_}
 use mathlib.Core.Path.{_≡_, refl, sym, ap₂, _∙_}
 use mathlib.Core.Bool.{Bool, true, false, not, _&&_, _||_, false≢true}
 use mathlib.Core.Logic.{_⊎_, inl, inr, ⊎-elim}
@@ -63,6 +63,19 @@ pub some-same : (n : ℕ) (f g : ℕ → Bool) → ((k : ℕ) → k < n → f k 
 unfolding some
 some-same zero f g h = refl
 some-same (suc n) f g h = ap₂ (λ (x y : Bool). x || y) (some-same n f g (λ k l. h k (omega arith))) (h n (omega arith))
+
+-- what is found by either of two tests is found by one of them
+pub some-or : (n : ℕ) (f g : ℕ → Bool) → some n (λ k. f k || g k) ≡ some n f || some n g
+some-or n f g =
+    same-test (some n (λ k. f k || g k)) (some n f || some n g)
+    (λ e.
+    let (k, h, t) = some-witness n (λ k. f k || g k) e in
+    ⊎-elim (λ u. or-first (some n f) (some n g) (some-true n f k h u)) (λ u. or-second (some n f) (some n g) (some-true n g k h u)) (or-cases (f k) (g k) t))
+    (λ e.
+    ⊎-elim
+    (λ u. let (k, h, t) = some-witness n f u in some-true n (λ k. f k || g k) k h (or-first (f k) (g k) t))
+    (λ u. let (k, h, t) = some-witness n g u in some-true n (λ k. f k || g k) k h (or-second (f k) (g k) t))
+    (or-cases (some n f) (some n g) e))
 
 -- one number more
 pub some-next : (n : ℕ) (f : ℕ → Bool) → some n f ≡ false → f n ≡ false → some (n + 1) f ≡ false

@@ -130,9 +130,6 @@ blank-shown o = by (o .top)
     by true = refl
     by false = refl
 
-pub blank-read : (row : List ℕ) (o : Order) (j k : ℕ) → Octets row → k ≡ byteOf o (8 * j) → byteAt row k ≡ 0 → 0 ≡ rowByte row o 0 j
-blank-read row o j k bytes held none = held-read row o j k 0 bytes held (sym (ap (shownByte o) none ∙ blank-shown o))
-
 pub blank-column : (k : ℕ) → column 0 k ≡ false
 unfolding column
 blank-column k = let e : 0 / 2 ^ (7 - k) ≡ 0 = zero-div (2 ^ (7 - k)) in rw e refl

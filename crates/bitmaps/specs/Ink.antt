@@ -1,11 +1,13 @@
 -- The pixels and rows that drawing and unpacking take one after the other, as the contracts of their inner functions name them.
 use Prim.Native.Nat.{ℕ, _+_, _*_, _≤_, _<_}
-use mathlib.Core.Bool.{Bool}
+use mathlib.Core.Bool.{Bool, true}
 use mathlib.Core.List.{List}
 use lib.Dec.{eqb, leb}
 use lib.ListN.{length}
+use Rattle.reads.specs.Num.{byteAt}
 use Rattle.bitmaps.specs.Place.{Place}
-use Rattle.bitmaps.specs.Units.{bitAt}
+use Rattle.bitmaps.specs.Units.{bitAt, shownByte}
+use Rattle.bitmaps.specs.Rows.{column}
 use Rattle.bitmaps.specs.Dots.{blockDot, rowDot, someDot}
 use Rattle.bitmaps.specs.declared.Order.{Order}
 
@@ -26,9 +28,21 @@ rowPast bit at width len = rowDot bit at width (λ j. leb len j)
 unfoldable pub rowsPast : (ℕ → ℕ → Bool) → Place → ℕ → ℕ → ℕ → Bool
 rowsPast bit at width n len = someDot bit at width n (λ j. leb len j)
 
--- the bits of the rows of which row r begins at byte first + r × step
+-- bits that are all set
+unfoldable pub everyBit : ℕ → ℕ → Bool
+everyBit r c = true
+
+-- where row r begins: `first`, and `step` bytes on for each row
+unfoldable pub rowStart : ℕ → ℕ → ℕ → ℕ
+rowStart first step r = first + r * step
+
+-- the bits of the rows that begin there
 unfoldable pub rowBits : List ℕ → Order → ℕ → ℕ → ℕ → ℕ → Bool
-rowBits s o first step r = bitAt s o (first + r * step)
+rowBits s o first step r = bitAt s o (rowStart first step r)
+
+-- the bits of one byte of each row, which stands there
+unfoldable pub byteBits : List ℕ → Order → ℕ → ℕ → ℕ → ℕ → Bool
+byteBits s o first step r = column (shownByte o (byteAt s (rowStart first step r)))
 
 -- the first `count` bytes of each of the n rows lie in these bytes
 pub record RowsIn (s : List ℕ) (first step count n : ℕ) : Type 0 where

@@ -12,7 +12,8 @@ use tables::BitmapData;
 ghost use mathlib.Core.Path.{_≡_};
 ghost use lib.ListN.{length};
 ghost use Rattle.bitmaps.specs.Units.{orderOf, rowByte};
-ghost use Rattle.bitmaps.specs.Rows.{rowStride};
+ghost use Rattle.bitmaps.specs.Rows.{rowStride, bytesPast};
+ghost use Rattle.bitmaps.specs.Ink.{rowStart};
 ghost use Rattle.bitmaps.specs.Picture.{noBitmap, unreadable, bitsOf, offsetOf, rowsShort};
 
 // Whether 12 refuses this glyph: the table has no bitmap for it.
@@ -89,10 +90,10 @@ pub fn row_byte(s: &[u8], b: BitmapData, row: usize, j: usize) -> u8
     read_byte(&s[from..end], order_of(b), j)
 }
 
-// Whether 14 refuses the first n rows of a glyph of this width. One comparison: the farthest byte that the last
-// row needs lies behind all the others.
-pub fn rows_short(s: &[u8], b: BitmapData, g: GlyphIndex, width: u16, n: u16) -> bool
-    ensures { λ r. ⌜ r ≡ rowsShort (now (s .entry)) b (g .0) width n ⌝ }
+// Whether 14 refuses n rows of this width, of which row r begins at byte `first` + r × `step` of the bitmap data. One
+// comparison: the farthest byte that the last row needs lies behind all the others.
+pub fn bytes_past(s: &[u8], b: BitmapData, first: u32, step: u32, width: u16, n: u16) -> bool
+    ensures { λ r. ⌜ r ≡ bytesPast (length (bitsOf (now (s .entry)) b)) (orderOf b) (rowStart first step) width n ⌝ }
 {
     if n == 0 {
         return false;
@@ -100,9 +101,14 @@ pub fn rows_short(s: &[u8], b: BitmapData, g: GlyphIndex, width: u16, n: u16) ->
     if width == 0 {
         return false;
     }
-    let first = offset_of(s, b, g) as usize;
-    let stride = row_stride(width, b.pad) as usize;
-    let rows = (n as usize - 1) * stride;
+    let rows = (n as usize - 1) * step as usize;
     let end = row_end(order_of(b), width) as usize;
-    data_size(s, b) < first + rows + end
+    data_size(s, b) < first as usize + rows + end
+}
+
+// Whether 14 refuses the first n rows of a glyph of this width.
+pub fn rows_short(s: &[u8], b: BitmapData, g: GlyphIndex, width: u16, n: u16) -> bool
+    ensures { λ r. ⌜ r ≡ rowsShort (now (s .entry)) b (g .0) width n ⌝ }
+{
+    bytes_past(s, b, offset_of(s, b, g), row_stride(width, b.pad), width, n)
 }

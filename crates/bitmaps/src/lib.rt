@@ -2,6 +2,7 @@
 mod data;
 mod units;
 
+pub use data::bytes_past;
 pub use data::no_bitmap;
 pub use data::offset_of;
 pub use data::row_byte;
@@ -15,7 +16,6 @@ pub use units::order_of;
 pub use units::row_bytes;
 pub use units::row_end;
 pub use units::shown;
-pub use units::usual;
 
 // How the rows of a bitmap table are written: in scan units of 1, 2 or 4 bytes (code 0, 1, 2), the most
 // significant byte of a unit first or last, its top bit or its lowest bit leftmost.

@@ -3,18 +3,11 @@ use crate::Order;
 use tables::BitmapData;
 ghost use mathlib.Core.Path.{_≡_};
 ghost use Prim.Native.Nat.{_*_, _<_};
-ghost use Rattle.bitmaps.specs.Units.{orderOf, unitBytes, usual, byteOf, rowByte, turned, shownByte};
+ghost use Rattle.bitmaps.specs.Units.{orderOf, unitBytes, byteOf, rowByte, turned, shownByte};
 ghost use Rattle.bitmaps.specs.Rows.{rowBytes, rowEnd, column};
 
 // Each half byte with its four bits in the other order.
 const HALVES: [u8; 16] = [0, 8, 4, 12, 2, 10, 6, 14, 1, 9, 5, 13, 3, 11, 7, 15];
-
-// Whether a table's rows are one-byte units, top bit leftmost, as in nearly all fonts.
-pub fn usual(b: BitmapData) -> bool
-    ensures { λ r. ⌜ r ≡ usual (orderOf b) ⌝ }
-{
-    (b.unit == 0) & b.top
-}
 
 // The order of a table's rows.
 pub fn order_of(b: BitmapData) -> Order

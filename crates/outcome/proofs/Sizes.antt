@@ -12,21 +12,14 @@ within a top b cap h k = mul-le-mul h k
 pub row-small : (r stride scale : ℕ) → r ≤ 65535 → stride ≤ 65535 → scale ≤ 255 → (r * stride ≤ 65535 * 65535) × (r * stride * scale ≤ 65535 * 65535 * 255)
 row-small r stride scale h k l = (within r 65535 stride 65535 h k, within (r * stride) (65535 * 65535) scale 255 (within r 65535 stride 65535 h k) l)
 
--- row r of n: where its bytes begin in the data, and its pixels in the buffer
-module _ (r n : ℕ) (below : r < n) (rows : n < 2 ^ 16) where
-  pub row-start : (step : ℕ) → step < 2 ^ 32 → Fits w64 (r * step)
-  row-start step h = omega (arith, within r 65535 step 4294967295 (omega arith) (omega arith))
+-- row r of n: where its pixels begin
+module _ (r n : ℕ) (below : r < n) (rows : n < 2 ^ 16) (stride : ℕ) (line : stride < 2 ^ 16) where
+  pub row-line : Fits w64 (r * stride)
+  row-line = omega (arith, within r 65535 stride 65535 (omega arith) (omega arith))
 
-  pub row-start-on : (first step : ℕ) → first < 2 ^ 32 → step < 2 ^ 32 → Fits w64 (first + r * step)
-  row-start-on first step k h = omega (arith, within r 65535 step 4294967295 (omega arith) (omega arith))
+  module _ (scale : ℕ) (side : scale < 2 ^ 8) where
+    pub row-place : Fits w64 (r * stride * scale)
+    row-place = omega (arith, row-small r stride scale (omega arith) (omega arith) (omega arith))
 
-  module _ (stride : ℕ) (line : stride < 2 ^ 16) where
-    pub row-line : Fits w64 (r * stride)
-    row-line = omega (arith, within r 65535 stride 65535 (omega arith) (omega arith))
-
-    module _ (scale : ℕ) (side : scale < 2 ^ 8) where
-      pub row-near : r * stride * scale ≤ 1152921504606846976
-      row-near = omega (arith, row-small r stride scale (omega arith) (omega arith) (omega arith))
-
-      pub row-place : Fits w64 (r * stride * scale)
-      row-place = omega (arith, row-near)
+    pub row-place-on : (at : ℕ) → at ≤ 1152921504606846976 → Fits w64 (at + r * stride * scale)
+    row-place-on at near = omega (arith, row-small r stride scale (omega arith) (omega arith) (omega arith))

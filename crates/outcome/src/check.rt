@@ -1,12 +1,16 @@
 // The answers, refusals in their order.
-use crate::past::pixel_past;
+use crate::past::corner_past;
 use crate::past::room_from;
+use crate::past::rows_past;
 use bitmaps::Drawn;
 use bitmaps::Rows;
 use bitmaps::Unpacked;
+use bitmaps::bytes_past;
 use bitmaps::no_bitmap;
+use bitmaps::offset_of;
+use bitmaps::order_of;
 use bitmaps::row_bytes;
-use bitmaps::rows_short;
+use bitmaps::row_stride;
 use bitmaps::unreadable;
 use reads::GlyphIndex;
 use reads::Refusal;
@@ -24,7 +28,7 @@ ghost use Rattle.bitmaps.specs.Unpack.{unpackedAt};
 
 // How many of a glyph's rows are drawn into a buffer of `len` pixels from p on: the buffer's whole lines,
 // in groups of `scale`.
-fn rows_drawn(len: usize, p: usize, stride: u16, scale: u8, height: u16) -> u16
+pub fn rows_drawn(len: usize, p: usize, stride: u16, scale: u8, height: u16) -> u16
     ensures { λ r. ⌜ r ≡ drawnRows len (placeAt p stride scale) height ⌝ }
 {
     if stride == 0 {
@@ -36,8 +40,8 @@ fn rows_drawn(len: usize, p: usize, stride: u16, scale: u8, height: u16) -> u16
     let line = stride as usize;
     let side = scale as usize;
     let room = room_from(len, p);
-    // Most glyphs have room and to spare, which is seen without a division.
-    if (height as usize + side) * line <= room {
+    // Most glyphs have room, which is seen without a division.
+    if (height as usize + (side - 1)) * line <= room {
         return height;
     }
     let whole = room / line / side * side;
@@ -69,17 +73,41 @@ pub fn shown_at(
         });
     }
     let n = rows_drawn(len, p, stride, scale, height);
-    if rows_short(s, b, g, width, n) {
+    // Without a row or a column there is no byte and no pixel to test.
+    if (n == 0) | (width == 0) {
+        return Drawn::Rows(Rows {
+            drawn: n,
+            dropped: height - n,
+        });
+    }
+    let first = offset_of(s, b, g);
+    let step = row_stride(width, b.pad);
+    if bytes_past(s, b, first, step, width, n) {
         return Drawn::Refused(Refusal {
             number: 14,
             place: 0,
         });
     }
-    if pixel_past(s, b, g, width, width as u32, n, len, p, stride, scale) {
-        return Drawn::Refused(Refusal {
-            number: 16,
-            place: 0,
-        });
+    let from = b.bits + first as usize;
+    let columns = width as u32;
+    if corner_past(columns, n, len, p, stride, scale) {
+        if rows_past(
+            s,
+            order_of(b),
+            from,
+            step,
+            columns,
+            n,
+            len,
+            p,
+            stride,
+            scale,
+        ) {
+            return Drawn::Refused(Refusal {
+                number: 16,
+                place: 0,
+            });
+        }
     }
     Drawn::Rows(Rows {
         drawn: n,
@@ -107,28 +135,37 @@ pub fn unpacked_at(
             place: 0,
         });
     }
-    if rows_short(s, b, g, width, height) {
+    if (height == 0) | (width == 0) {
+        return Unpacked::Rows(height);
+    }
+    let first = offset_of(s, b, g);
+    let step = row_stride(width, b.pad);
+    if bytes_past(s, b, first, step, width, height) {
         return Unpacked::Refused(Refusal {
             number: 14,
             place: 0,
         });
     }
-    if pixel_past(
-        s,
-        b,
-        g,
-        width,
-        8 * row_bytes(width),
-        height,
-        len,
-        p,
-        stride,
-        1,
-    ) {
-        return Unpacked::Refused(Refusal {
-            number: 16,
-            place: 0,
-        });
+    let from = b.bits + first as usize;
+    let columns = 8 * row_bytes(width);
+    if corner_past(columns, height, len, p, stride, 1) {
+        if rows_past(
+            s,
+            order_of(b),
+            from,
+            step,
+            columns,
+            height,
+            len,
+            p,
+            stride,
+            1,
+        ) {
+            return Unpacked::Refused(Refusal {
+                number: 16,
+                place: 0,
+            });
+        }
     }
     Unpacked::Rows(height)
 }

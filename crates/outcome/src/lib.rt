@@ -7,5 +7,8 @@ pub use check::bitmap_check;
 pub use check::bitmap_ready;
 pub use check::ok_pair;
 pub use check::ok_place;
+pub use check::rows_drawn;
 pub use check::shown_at;
 pub use check::unpacked_at;
+pub use past::corner_past;
+pub use past::rows_past;

@@ -1,24 +1,53 @@
--- What is decided before the first pixel is coloured: where nothing refuses, the drawn rows are there and no set bit of theirs lies past the
--- buffer.
-use Prim.Native.Nat.{ℕ}
-use mathlib.Core.Path.{_≡_, sym, _∙_}
-use mathlib.Core.Bool.{false}
+-- What is decided before the first pixel is coloured: without a row or a column nothing is, and else the place lies in the buffer and a
+-- block has pixels.
+use Prim.Native.Nat.{ℕ, _*_, _≤_, _<_, _^_}
+use mathlib.Core.Path.{_≡_}
+use mathlib.Core.Bool.{false, true, _||_}
 use mathlib.Core.List.{List}
+use native.Mathlib.Omega.{arith}
+use lib.Dec.{eqb, leb}
+use mir.Syntax.{w64}
+use mir.Val.{Fits}
+use borrow.Author.Tests.{leb-true, leb-false, eqb-true, eqb-false}
+use Rattle.reads.proofs.Tests.{split}
 use Rattle.tables.specs.declared.BitmapData.{BitmapData}
-use Rattle.bitmaps.specs.Place.{placeAt}
-use Rattle.bitmaps.specs.Picture.{rowsShort, pixelPast}
-use Rattle.bitmaps.specs.Draw.{shownAt}
-use Rattle.bitmaps.specs.declared.Drawn.{Drawn}
-use Rattle.bitmaps.specs.declared.Rows.{Rows}
-use Rattle.outcome.proofs.Answered.{shown-rows}
+use Rattle.bitmaps.specs.Place.{Place, placeAt}
+use Rattle.bitmaps.specs.Paint.{painted}
+use Rattle.bitmaps.specs.Cut.{drawnRows}
+use Rattle.bitmaps.specs.Unpack.{wholeColumns}
+use Rattle.bitmaps.specs.Picture.{glyphBit}
+use Rattle.bitmaps.specs.Draw.{inGlyph}
+use Rattle.bitmaps.proofs.CutRule.{drawn-none, drawn-no-scale}
+use Rattle.bitmaps.proofs.NoDots.{no-dots}
+use Rattle.bitmaps.proofs.LentRows.{some-there}
+use Rattle.outcome.proofs.Tests.{nothing-there}
 
-module _ (s : List ℕ) (b : BitmapData) (g width height len p stride scale : ℕ) (drawn : Drawn)
-    (drawn-is : drawn ≡ shownAt s b g width height len (placeAt p stride scale)) where
-  pub rows-there : (r : Rows) → drawn ≡ Drawn.Rows r → rowsShort s b g width (r .drawn) ≡ false
-  rows-there r e = shown-rows s b g width height len (placeAt p stride scale) r (sym drawn-is ∙ e) .1 .rows
+pub nothing-coloured : (s : List ℕ) (b : BitmapData) (g width n colour : ℕ) (at : Place) (old : List ℕ) → eqb n 0 || eqb width 0 ≡ true
+    → old ≡ painted (inGlyph s b g width at n) colour old
+nothing-coloured s b g width n colour at old e = no-dots (glyphBit s b g width) at width n colour old (λ r c a h l m. nothing-there n width r c e h l)
 
-  pub pixels-inside : (r : Rows) → drawn ≡ Drawn.Rows r → pixelPast s b g width width (placeAt p stride scale) (r .drawn) len ≡ false
-  pixels-inside r e = shown-rows s b g width height len (placeAt p stride scale) r (sym drawn-is ∙ e) .1 .pixels
+-- the columns of a row are columns of its whole bytes
+pub own-columns : (width : ℕ) → width ≤ wholeColumns width
+own-columns width = omega arith
 
-  pub answered : (r : Drawn) → drawn ≡ r → r ≡ shownAt s b g width height len (placeAt p stride scale)
-  answered r e = sym e ∙ drawn-is
+module _ (n width : ℕ) (some : eqb n 0 || eqb width 0 ≡ false) where
+  pub some-rows : 1 ≤ n
+  some-rows = some-there n width some .0
+
+  module _ (len p stride scale height : ℕ) (n-is : n ≡ drawnRows len (placeAt p stride scale) height) where
+    pub place-inside : p < len
+    place-inside =
+        split (leb len p) (λ t. absurd (omega (arith, some-rows, n-is, drawn-none len (placeAt p stride scale) height (leb-true len p t))))
+        (λ t. leb-false len p t)
+
+    pub some-scale : 1 ≤ scale
+    some-scale =
+        split (eqb scale 0) (λ t. absurd (omega (arith, some-rows, n-is, drawn-no-scale len (placeAt p stride scale) height (eqb-true scale 0 t))))
+        (λ t. omega (arith, eqb-false scale 0 t))
+
+    -- so that it is lent from there on
+    pub place-reached : p ≤ len
+    place-reached = omega (arith, place-inside)
+
+    pub place-bytes-fit : len * 4 < 2 ^ 63 → Fits w64 (p * 4)
+    place-bytes-fit l = omega (arith, place-inside)

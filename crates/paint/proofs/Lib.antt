@@ -1,8 +1,6 @@
 pub mod FirstColumns
 pub mod Lines
-pub mod SetBlock
-pub mod SetBits
-pub mod RowBytes
-pub mod ReadByte
-pub mod LentRow
+pub mod Bars
+pub mod CutBytes
+pub mod StripPlaces
 pub mod Decided

@@ -1,4 +1,4 @@
--- The pixels of one set bit: a line's one after the other, and a block's line by line.
+-- The pixels of a run of set bits: a line's one after the other, and a bar's line by line.
 use Prim.Native.Nat.{ℕ, _+_, _*_, _-_, _≤_, _<_}
 use mathlib.Core.Path.{_≡_, refl, ap, _∙_}
 use mathlib.Core.List.{List}
@@ -8,10 +8,8 @@ use lib.Dec.{eqb}
 use lib.ListN.{length, set, length-set}
 use Rattle.bitmaps.specs.Place.{placeAt}
 use Rattle.bitmaps.specs.Paint.{some, painted}
-use Rattle.bitmaps.specs.Dots.{blockDot}
-use Rattle.bitmaps.specs.Ink.{inBlock}
 use Rattle.bitmaps.proofs.Painting.{length-painted, painted-zero, painted-more, set-painted}
-use Rattle.paint.specs.Ink.{inLine}
+use Rattle.paint.specs.Ink.{inLine, barDot, inBar}
 
 -- the first b of n pixels from `at` on are coloured
 pub record Dotted (old : List ℕ) (at n colour : ℕ) (buf : List ℕ) (b : ℕ) : Type 0 where
@@ -38,28 +36,28 @@ module _ (old : List ℕ) (at n colour : ℕ) where
     pub all-dots : n ≤ b → buf ≡ painted (inLine at n) colour old
     all-dots h = let e : b ≡ n = omega arith in rw e at (so-far .is)
 
--- the first a of a block's lines are coloured
-pub record Lined (old : List ℕ) (at stride scale colour : ℕ) (buf : List ℕ) (a : ℕ) : Type 0 where
+-- the first a of a bar's lines are coloured
+pub record Lined (old : List ℕ) (at stride scale long colour : ℕ) (buf : List ℕ) (a : ℕ) : Type 0 where
   pub inside : a ≤ scale
   pub same : length buf ≡ length old
-  pub is : buf ≡ painted (λ i. some a (λ d. inLine (at + d * stride) scale i)) colour old
+  pub is : buf ≡ painted (λ i. some a (λ d. inLine (at + d * stride) long i)) colour old
 
-module _ (old : List ℕ) (at stride scale colour : ℕ) where
-  pub no-line : Lined old at stride scale colour old 0
-  no-line = record { inside = omega arith; same = refl; is = painted-zero (λ i d. inLine (at + d * stride) scale i) colour old }
+module _ (old : List ℕ) (at stride scale long colour : ℕ) where
+  pub no-line : Lined old at stride scale long colour old 0
+  no-line = record { inside = omega arith; same = refl; is = painted-zero (λ i d. inLine (at + d * stride) long i) colour old }
 
-  module _ (buf : List ℕ) (a : ℕ) (so-far : Lined old at stride scale colour buf a) where
-    pub line-more : (new : List ℕ) → a < scale → new ≡ painted (inLine (at + a * stride) scale) colour buf → Lined old at stride scale colour new (a + 1)
+  module _ (buf : List ℕ) (a : ℕ) (so-far : Lined old at stride scale long colour buf a) where
+    pub line-more : (new : List ℕ) → a < scale → new ≡ painted (inLine (at + a * stride) long) colour buf → Lined old at stride scale long colour new (a + 1)
     line-more new h e = record {
       inside = omega arith;
-      same = ap length e ∙ length-painted (inLine (at + a * stride) scale) colour buf ∙ so-far .same;
+      same = ap length e ∙ length-painted (inLine (at + a * stride) long) colour buf ∙ so-far .same;
       is =
-          e ∙ ap (painted (inLine (at + a * stride) scale) colour) (so-far .is)
-          ∙ painted-more (λ i d. inLine (at + d * stride) scale i) a colour old;
+          e ∙ ap (painted (inLine (at + a * stride) long) colour) (so-far .is)
+          ∙ painted-more (λ i d. inLine (at + d * stride) long i) a colour old;
     }
 
-    pub all-lines : scale ≤ a → buf ≡ painted (inBlock (placeAt at stride scale)) colour old
-    unfolding inBlock blockDot inLine
+    pub all-lines : scale ≤ a → buf ≡ painted (inBar (placeAt at stride scale) long) colour old
+    unfolding inBar barDot inLine
     all-lines h = let e : a ≡ scale = omega arith in rw e at (so-far .is)
 
 -- no line lies farther than the last

@@ -1,193 +1,29 @@
 // A bitmap drawn at a place: the answer first, then the pixels, in the part of the buffer from there on.
-use crate::other::other_rows;
-use crate::rows::usual_rows;
+use crate::rows::glyph_rows;
 use bitmaps::Drawn;
+use bitmaps::Rows;
+use bitmaps::bytes_past;
 use bitmaps::offset_of;
 use bitmaps::order_of;
 use bitmaps::row_stride;
-use bitmaps::usual;
+use bitmaps::unreadable;
 use outcome::bitmap_ready;
-use outcome::shown_at;
+use outcome::corner_past;
+use outcome::rows_drawn;
+use outcome::rows_past;
 use reads::GlyphIndex;
+use reads::Refusal;
 use tables::BitmapData;
 use tables::Permit;
 use tables::Record;
 ghost use mathlib.Core.Path.{_≡_};
-ghost use mathlib.Core.Bool.{true, false};
 ghost use lib.ListN.{length};
 ghost use Rattle.bitmaps.specs.Place.{placeAt};
-ghost use Rattle.bitmaps.specs.Paint.{painted};
-ghost use Rattle.bitmaps.specs.Units.{orderOf, usual};
-ghost use Rattle.bitmaps.specs.Picture.{rowsShort, pixelPast};
-ghost use Rattle.bitmaps.specs.Draw.{shownAt, inGlyph, shownLeaves, drawBitmap};
-
-// Colours n rows of glyph g at p, in the part of the buffer that begins there; in the usual order.
-fn usual_from(
-    s: &[u8],
-    b: BitmapData,
-    g: GlyphIndex,
-    width: u16,
-    n: u16,
-    buf: &mut [u32],
-    p: usize,
-    stride: u16,
-    scale: u8,
-    colour: u32,
-)
-    requires { ⌜ usual (orderOf b) ≡ true ⌝ }
-    requires { ⌜ rowsShort (now s) b (g .0) width n ≡ false ⌝ }
-    requires { ⌜ pixelPast (now s) b (g .0) width width (placeAt p stride scale) n (length (now buf)) ≡ false ⌝ }
-    ensures { λ _. ⌜ now (buf .exit) ≡ painted (inGlyph (now (s .entry)) b (g .0) width (placeAt p stride scale) n) colour (now (buf .entry)) ⌝ }
-{
-    if n == 0 {
-        return;
-    }
-    if width == 0 {
-        return;
-    }
-    if scale == 0 {
-        return;
-    }
-    if p <= buf.len() {
-        let first = b.bits + offset_of(s, b, g) as usize;
-        let step = row_stride(width, b.pad);
-        usual_rows(
-            s,
-            order_of(b),
-            first,
-            step,
-            width,
-            n,
-            &mut buf[p..],
-            stride,
-            scale,
-            colour,
-        );
-    }
-}
-
-// The same in any order.
-fn other_from(
-    s: &[u8],
-    b: BitmapData,
-    g: GlyphIndex,
-    width: u16,
-    n: u16,
-    buf: &mut [u32],
-    p: usize,
-    stride: u16,
-    scale: u8,
-    colour: u32,
-)
-    requires { ⌜ rowsShort (now s) b (g .0) width n ≡ false ⌝ }
-    requires { ⌜ pixelPast (now s) b (g .0) width width (placeAt p stride scale) n (length (now buf)) ≡ false ⌝ }
-    ensures { λ _. ⌜ now (buf .exit) ≡ painted (inGlyph (now (s .entry)) b (g .0) width (placeAt p stride scale) n) colour (now (buf .entry)) ⌝ }
-{
-    if n == 0 {
-        return;
-    }
-    if width == 0 {
-        return;
-    }
-    if scale == 0 {
-        return;
-    }
-    if p <= buf.len() {
-        let first = b.bits + offset_of(s, b, g) as usize;
-        let step = row_stride(width, b.pad);
-        other_rows(
-            s,
-            order_of(b),
-            first,
-            step,
-            width,
-            n,
-            &mut buf[p..],
-            stride,
-            scale,
-            colour,
-        );
-    }
-}
-
-// Draws glyph g, of this width and height, at place p, from a table in the usual order, or refuses 13, 14, 16 and
-// colours nothing.
-fn show_usual(
-    s: &[u8],
-    b: BitmapData,
-    g: GlyphIndex,
-    width: u16,
-    height: u16,
-    buf: &mut [u32],
-    p: usize,
-    stride: u16,
-    scale: u8,
-    colour: u32,
-) -> Drawn
-    requires { ⌜ usual (orderOf b) ≡ true ⌝ }
-    ensures { λ r. ⌜ r ≡ shownAt (now (s .entry)) b (g .0) width height (length (now (buf .entry))) (placeAt p stride scale) ⌝ }
-    ensures { λ r. ⌜ now (buf .exit) ≡ shownLeaves (now (s .entry)) b (g .0) width (placeAt p stride scale) colour r (now (buf .entry)) ⌝ }
-{
-    let drawn = shown_at(s, b, g, width, height, buf.len(), p, stride, scale);
-    match drawn {
-        Drawn::Rows(rows) => {
-            usual_from(
-                s,
-                b,
-                g,
-                width,
-                rows.drawn,
-                &mut *buf,
-                p,
-                stride,
-                scale,
-                colour,
-            );
-            Drawn::Rows(rows)
-        }
-        Drawn::Refused(r) => Drawn::Refused(r),
-    }
-}
-
-// The same from a table in any order.
-fn show_other(
-    s: &[u8],
-    b: BitmapData,
-    g: GlyphIndex,
-    width: u16,
-    height: u16,
-    buf: &mut [u32],
-    p: usize,
-    stride: u16,
-    scale: u8,
-    colour: u32,
-) -> Drawn
-    ensures { λ r. ⌜ r ≡ shownAt (now (s .entry)) b (g .0) width height (length (now (buf .entry))) (placeAt p stride scale) ⌝ }
-    ensures { λ r. ⌜ now (buf .exit) ≡ shownLeaves (now (s .entry)) b (g .0) width (placeAt p stride scale) colour r (now (buf .entry)) ⌝ }
-{
-    let drawn = shown_at(s, b, g, width, height, buf.len(), p, stride, scale);
-    match drawn {
-        Drawn::Rows(rows) => {
-            other_from(
-                s,
-                b,
-                g,
-                width,
-                rows.drawn,
-                &mut *buf,
-                p,
-                stride,
-                scale,
-                colour,
-            );
-            Drawn::Rows(rows)
-        }
-        Drawn::Refused(r) => Drawn::Refused(r),
-    }
-}
+ghost use Rattle.bitmaps.specs.Draw.{shownAt, shownLeaves, drawBitmap};
 
 // Draws glyph g, of this width and height, at place p, or refuses 13, 14, 16 and colours nothing. Does
-// not test the record, nor whether g has a bitmap. The usual order is told apart here, once for each glyph.
+// not test the record, nor whether g has a bitmap. The tests are those of `outcome::shown_at`, made here so that where
+// the rows stand is found once, for them and for the drawing.
 pub fn show_at(
     s: &[u8],
     b: BitmapData,
@@ -203,10 +39,65 @@ pub fn show_at(
     ensures { λ r. ⌜ r ≡ shownAt (now (s .entry)) b (g .0) width height (length (now (buf .entry))) (placeAt p stride scale) ⌝ }
     ensures { λ r. ⌜ now (buf .exit) ≡ shownLeaves (now (s .entry)) b (g .0) width (placeAt p stride scale) colour r (now (buf .entry)) ⌝ }
 {
-    if usual(b) {
-        return show_usual(s, b, g, width, height, &mut *buf, p, stride, scale, colour);
+    if unreadable(b) {
+        return Drawn::Refused(Refusal {
+            number: 13,
+            place: 0,
+        });
     }
-    show_other(s, b, g, width, height, &mut *buf, p, stride, scale, colour)
+    let n = rows_drawn(buf.len(), p, stride, scale, height);
+    // Without a row or a column there is nothing to test, nor to colour.
+    if (n == 0) | (width == 0) {
+        return Drawn::Rows(Rows {
+            drawn: n,
+            dropped: height - n,
+        });
+    }
+    let first = offset_of(s, b, g);
+    let step = row_stride(width, b.pad);
+    if bytes_past(s, b, first, step, width, n) {
+        return Drawn::Refused(Refusal {
+            number: 14,
+            place: 0,
+        });
+    }
+    let from = b.bits + first as usize;
+    let columns = width as u32;
+    if corner_past(columns, n, buf.len(), p, stride, scale) {
+        if rows_past(
+            s,
+            order_of(b),
+            from,
+            step,
+            columns,
+            n,
+            buf.len(),
+            p,
+            stride,
+            scale,
+        ) {
+            return Drawn::Refused(Refusal {
+                number: 16,
+                place: 0,
+            });
+        }
+    }
+    glyph_rows(
+        s,
+        order_of(b),
+        from,
+        step,
+        width,
+        n,
+        &mut buf[p..],
+        stride,
+        scale,
+        colour,
+    );
+    Drawn::Rows(Rows {
+        drawn: n,
+        dropped: height - n,
+    })
 }
 
 // Draws glyph g's bitmap, of the width and height given, with its top left pixel at `start`, and answers

@@ -3,7 +3,6 @@
 mod block;
 mod columns;
 mod draw;
-mod other;
 mod rows;
 
 pub use draw::draw_bitmap;

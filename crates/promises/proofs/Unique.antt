@@ -1,6 +1,6 @@
 -- Each public function's contract, as it stands in the source, determines its answer: any two results that satisfy it for the same
 -- arguments are equal.
-use mathlib.Core.Path.{_≡_, refl, sym, _∙_}
+use mathlib.Core.Path.{refl, sym, _∙_}
 use denote.Ref.{now}
 use Rattle.promises.specs.Unique.{Fixes, FixesBytes, FixesLent}
 use Rattle.reads.proofs.byte_at.Kinds as byte-at-kinds
@@ -81,8 +81,6 @@ use Rattle.bitmaps.proofs.row_end.Kinds as row-end-kinds
 use Rattle.bitmaps.proofs.row_end.Reads as row-end-reads
 use Rattle.bitmaps.proofs.shown.Kinds as shown-kinds
 use Rattle.bitmaps.proofs.shown.Reads as shown-reads
-use Rattle.bitmaps.proofs.usual.Kinds as usual-kinds
-use Rattle.bitmaps.proofs.usual.Reads as usual-reads
 use Rattle.bitmaps.proofs.bit_of.Kinds as bit-of-kinds
 use Rattle.bitmaps.proofs.bit_of.Reads as bit-of-reads
 use Rattle.bitmaps.proofs.unreadable.Kinds as unreadable-kinds
@@ -95,6 +93,8 @@ use Rattle.bitmaps.proofs.offset_of.Kinds as offset-of-kinds
 use Rattle.bitmaps.proofs.offset_of.Reads as offset-of-reads
 use Rattle.bitmaps.proofs.row_byte.Kinds as row-byte-kinds
 use Rattle.bitmaps.proofs.row_byte.Reads as row-byte-reads
+use Rattle.bitmaps.proofs.bytes_past.Kinds as bytes-past-kinds
+use Rattle.bitmaps.proofs.bytes_past.Reads as bytes-past-reads
 use Rattle.bitmaps.proofs.rows_short.Kinds as rows-short-kinds
 use Rattle.bitmaps.proofs.rows_short.Reads as rows-short-reads
 use Rattle.hexline.proofs.hex_read.Kinds as hex-read-kinds
@@ -127,6 +127,12 @@ use Rattle.outcome.proofs.ok_pair.Kinds as ok-pair-kinds
 use Rattle.outcome.proofs.ok_pair.Reads as ok-pair-reads
 use Rattle.outcome.proofs.shown_at.Kinds as shown-at-kinds
 use Rattle.outcome.proofs.shown_at.Reads as shown-at-reads
+use Rattle.outcome.proofs.rows_drawn.Kinds as rows-drawn-kinds
+use Rattle.outcome.proofs.rows_drawn.Reads as rows-drawn-reads
+use Rattle.outcome.proofs.corner_past.Kinds as corner-past-kinds
+use Rattle.outcome.proofs.corner_past.Reads as corner-past-reads
+use Rattle.outcome.proofs.rows_past.Kinds as rows-past-kinds
+use Rattle.outcome.proofs.rows_past.Reads as rows-past-reads
 use Rattle.outcome.proofs.unpacked_at.Kinds as unpacked-at-kinds
 use Rattle.outcome.proofs.unpacked_at.Reads as unpacked-at-reads
 use Rattle.outcome.proofs.bitmap_ready.Kinds as bitmap-ready-kinds
@@ -283,9 +289,6 @@ row-end-unique κs a r₁ r₂ x₁ x₂ p q = p ∙ sym q
 pub shown-unique : Fixes 0 shown-kinds.ps shown-kinds.r shown-reads.Post
 shown-unique κs a r₁ r₂ x₁ x₂ p q = p ∙ sym q
 
-pub usual-unique : Fixes 0 usual-kinds.ps usual-kinds.r usual-reads.Post
-usual-unique κs a r₁ r₂ x₁ x₂ p q = p ∙ sym q
-
 pub bit-of-unique : Fixes 0 bit-of-kinds.ps bit-of-kinds.r bit-of-reads.Post
 bit-of-unique κs a r₁ r₂ x₁ x₂ p q = p ∙ sym q
 
@@ -303,6 +306,9 @@ offset-of-unique κs a r₁ r₂ x₁ x₂ p q = p ∙ sym q
 
 pub row-byte-unique : Fixes 1 row-byte-kinds.ps row-byte-kinds.r row-byte-reads.Post
 row-byte-unique κs a r₁ r₂ x₁ x₂ p q = p ∙ sym q
+
+pub bytes-past-unique : Fixes 1 bytes-past-kinds.ps bytes-past-kinds.r bytes-past-reads.Post
+bytes-past-unique κs a r₁ r₂ x₁ x₂ p q = p ∙ sym q
 
 pub rows-short-unique : Fixes 1 rows-short-kinds.ps rows-short-kinds.r rows-short-reads.Post
 rows-short-unique κs a r₁ r₂ x₁ x₂ p q = p ∙ sym q
@@ -356,6 +362,15 @@ ok-place-unique κs a r₁ r₂ x₁ x₂ p q = p ∙ sym q
 
 pub ok-pair-unique : Fixes 0 ok-pair-kinds.ps ok-pair-kinds.r ok-pair-reads.Post
 ok-pair-unique κs a r₁ r₂ x₁ x₂ p q = p ∙ sym q
+
+pub rows-drawn-unique : Fixes 0 rows-drawn-kinds.ps rows-drawn-kinds.r rows-drawn-reads.Post
+rows-drawn-unique κs a r₁ r₂ x₁ x₂ p q = p ∙ sym q
+
+pub corner-past-unique : Fixes 0 corner-past-kinds.ps corner-past-kinds.r corner-past-reads.Post
+corner-past-unique κs a r₁ r₂ x₁ x₂ p q = p ∙ sym q
+
+pub rows-past-unique : Fixes 1 rows-past-kinds.ps rows-past-kinds.r rows-past-reads.Post
+rows-past-unique κs a r₁ r₂ x₁ x₂ p q = p ∙ sym q
 
 pub shown-at-unique : Fixes 1 shown-at-kinds.ps shown-at-kinds.r shown-at-reads.Post
 shown-at-unique κs a r₁ r₂ x₁ x₂ p q = p ∙ sym q

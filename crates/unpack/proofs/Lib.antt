@@ -1,5 +1,4 @@
-pub mod Columns
-pub mod RowBytes
-pub mod FlatRows
-pub mod Lent
-pub mod Decided
+pub mod ByteBits
+pub mod StripRows
+pub mod WholeStrips
+pub mod Tested

@@ -1,22 +1,19 @@
 -- A set bit passes the room where its block's last pixel does, and no bit does where the last column's block fits.
-use Prim.Native.Nat.{_-_, _*_, _≤_}
+use Prim.Native.Nat.{_+_, _-_, _*_, _≤_}
 use native.Mathlib.Omega.{arith}
-use lib.Dec.{leb}
 use Rattle.bitmaps.specs.Place.{placeAt}
-use Rattle.bitmaps.specs.Units.{orderOf, bitAt}
-use Rattle.bitmaps.specs.Picture.{bitsOf}
+use Rattle.bitmaps.specs.Units.{bitAt}
 use Rattle.outcome.proofs.Sizes.{within}
 use Rattle.outcome.proofs.Corner.{row-fits}
 use Rattle.outcome.proofs.RowSearch.{RowClear, row-clear-first, row-clear-next, row-clear-all, column-past}
-use borrow.Author.Needs.{needs}
 use Rattle.outcome.proofs.past.row_past.Statement.{statement}
 use Rattle.outcome.proofs.past.row_past.Tie as tie
 
 abbrev Inv-loop : tie.InvT-loop
-Inv-loop s b row at columns room stride scale side down count c₀ c = RowClear (bitAt (bitsOf s b) (orderOf b) row) (placeAt at stride scale) columns (λ j. leb room j) c
+Inv-loop s order first row at columns room stride scale side down count c₀ c = RowClear (bitAt s order (first + row)) (placeAt at stride scale) columns room c
 
 abbrev μ-loop : tie.MeasureT-loop
-μ-loop s b row at columns room stride scale side down count c₀ c = columns - c
+μ-loop s order first row at columns room stride scale side down count c₀ c = columns - c
 
 -- the places of a block's last line and of a column stay small
 
@@ -39,7 +36,7 @@ row-past-spec =
     (λ c. omega (arith, sizes (search)))  -- add-if1-2
     (λ c. search row-fits)  -- returns
     (λ c. search row-clear-first)  -- loop-holds
-    (λ c κs. search needs)  -- bit-at-requires
+    (λ c κs. (omega arith, omega arith))  -- bit-at-requires
     (λ c. omega (arith, sizes (search), column-size (search)))  -- mul-if2
     (λ c. omega (arith, sizes (search), column-size (search)))  -- add-if2
     (λ c. omega (arith, sizes (search), column-size (search)))  -- add-if2-2
