@@ -89,6 +89,9 @@ pub trait Case {
 /// A case of which the port's pixels can be compared with those of another font.
 pub(crate) trait Drawing: Case {
     type Drawn: PartialEq;
+    type Cell;
+    /// What all sides draw on while time is taken.
+    fn buffer(&mut self) -> &mut Vec<Self::Cell>;
     /// What the port answers and leaves on cleared pages; none where it refuses or drops rows.
     fn drawn(&self) -> Option<Self::Drawn>;
 }

@@ -97,6 +97,11 @@ impl<C: GlyphCall> Case for EachGlyph<C> {
 impl<C: GlyphCall> Drawing for EachGlyph<C> {
     /// Of each character.
     type Drawn = Vec<(C::Rows, Vec<C::Cell>)>;
+    type Cell = C::Cell;
+
+    fn buffer(&mut self) -> &mut Vec<C::Cell> {
+        &mut self.buffer
+    }
 
     fn drawn(&self) -> Option<Self::Drawn> {
         let by_port = |&info| {

@@ -1,6 +1,7 @@
 //! A font whose rows are in another order, beside the same font in the usual one. 000 does not draw the first, so both
 //! sides are the port.
 use crate::cases::{Case, Drawing, Font, Side};
+use std::mem::swap;
 
 pub struct InOrder<C> {
     other: C,
@@ -23,8 +24,11 @@ impl<C: Drawing> Case for InOrder<C> {
         self.other.port();
     }
 
+    /// On the same buffer, since one may be slower to draw on than another, by where it lies.
     fn beside(&mut self) {
+        swap(self.other.buffer(), self.usual.buffer());
         self.usual.port();
+        swap(self.other.buffer(), self.usual.buffer());
     }
 
     /// The usual order is compared with its other sides too, so that two equal faults are seen.

@@ -91,6 +91,11 @@ impl Case for Text {
 
 impl Drawing for Text {
     type Drawn = (TextRows, Vec<u32>);
+    type Cell = u32;
+
+    fn buffer(&mut self) -> &mut Vec<u32> {
+        &mut self.page
+    }
 
     fn drawn(&self) -> Option<Self::Drawn> {
         let (answer, page) = on_cleared(self.page.len(), |page| self.call.port(page));
