@@ -7,8 +7,8 @@ SIZES = ("6x12", "8x16", "16x32")
 DOUBLED, BETWEEN, EVERY = "1 2 4 8".split(), "3 5 6 7".split(), "1 2 3 4 5 6 7 8".split()
 UNSCALED = ["0"]
 
-# of the port's time or instructions as a part of another side's, with one font, or with all that are measured where
-# that is None, and at each of some scales
+# at each of some scales the port's time or instructions are at most this part of a side's; without a font, with every
+# one that is measured
 Goal = collections.namedtuple("Goal", "call font scales most what side")
 
 

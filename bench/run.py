@@ -47,6 +47,10 @@ ORDERS = {
     "4-byte units reversed, lowest bit left": order_bits(big=True, top=False, unit=4, pad=4),
 }
 
+# Each function begins at a cache line: where in one it begins, which otherwise all that is linked before decides, moved
+# its times by a tenth.
+GCC_FLAGS = ("-O2", "-falign-functions=64")
+
 
 def tools():
     """sees that what makes the library for this machine, and the loops in C, is there"""
@@ -90,10 +94,9 @@ def make_fonts(folder):
 
 
 def plain():
-    """the loops in C, compiled for a program that may lie anywhere, as rustc makes it. Each function begins at a cache
-    line: where in one it begins, which otherwise all that is linked before decides, moved its times by a tenth"""
+    """the loops in C, compiled for a program that may lie anywhere, as rustc makes it"""
     made = os.path.join(FOLDER, "plain.o")
-    library.run("gcc", "-O2", "-fPIE", "-falign-functions=64", "-c", os.path.join(HERE, "plain.c"), "-o", made)
+    library.run("gcc", *GCC_FLAGS, "-fPIE", "-c", os.path.join(HERE, "plain.c"), "-o", made)
     return made
 
 
@@ -153,7 +156,7 @@ def machine(what):
     rustc = subprocess.run(["rustc", "--version"], stdout=subprocess.PIPE).stdout.decode().split(" (")[0]
     gcc = subprocess.run(["gcc", "-dumpfullversion"], stdout=subprocess.PIPE).stdout.decode().strip()
     return ("Machine: %s, %s. Compiler of 000: %s, opt-level 3, without overflow checks; of the loops in C: gcc %s, "
-            "-O2. The port: %s." % (platform.machine(), model, rustc, gcc, what))
+            "%s. The port: %s." % (platform.machine(), model, rustc, gcc, " ".join(GCC_FLAGS), what))
 
 
 def measure(program, fonts, only):

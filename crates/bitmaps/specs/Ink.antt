@@ -8,13 +8,10 @@ use Rattle.reads.specs.Num.{byteAt}
 use Rattle.bitmaps.specs.Place.{Place}
 use Rattle.bitmaps.specs.Units.{bitAt, shownByte}
 use Rattle.bitmaps.specs.Rows.{column}
-use Rattle.bitmaps.specs.Dots.{blockDot, rowDot, someDot}
+use Rattle.bitmaps.specs.Dots.{rowDot, someDot}
 use Rattle.bitmaps.specs.declared.Order.{Order}
 
--- i is a pixel of the set bit whose block begins there, of one row of bits, of the first n rows
-unfoldable pub inBlock : Place → ℕ → Bool
-inBlock at i = blockDot at (λ j. eqb i j)
-
+-- i is a pixel of one row of bits, of the first n rows
 unfoldable pub inRow : (ℕ → Bool) → Place → ℕ → ℕ → Bool
 inRow bit at width i = rowDot bit at width (λ j. eqb i j)
 

@@ -16,7 +16,7 @@ use Rattle.bitmaps.proofs.Pixels.{dot-true, dot-found, dot-moved}
 use Rattle.bitmaps.proofs.Shift.{past-room}
 use Rattle.bitmaps.proofs.NoDots.{none-found}
 
-last-line : (a n stride : ℕ) → a < n → a * stride ≤ (n - 1) * stride
+pub last-line : (a n stride : ℕ) → a < n → a * stride ≤ (n - 1) * stride
 last-line a n stride h = mul-le-mul-right stride (omega arith)
 
 -- a block passes the room where its last pixel does
@@ -93,7 +93,7 @@ module _ (p stride scale columns n len room : ℕ) (room-is : room ≡ len - p) 
   pub corner-is : ltb room ((n - 1) * stride * scale + (scale - 1) * stride + columns * scale) ≡ rowsPast everyBit (placeAt p stride scale) columns n len
   corner-is = by-room everyBit p stride scale columns n len room (ltb room corner) room-is by-corner
 
--- where no bit at all would pass, the set ones do not
+-- where none would pass if every bit were set, no set one does
 pub corner-free : (bit : ℕ → ℕ → Bool) (p stride scale columns n len : ℕ) (corner : Bool) → corner ≡ rowsPast everyBit (placeAt p stride scale) columns n len
     → corner ≡ false → rowsPast bit (placeAt p stride scale) columns n len ≡ false
 unfolding rowsPast everyBit

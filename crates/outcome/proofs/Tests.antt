@@ -1,4 +1,4 @@
--- The tests of a drawing and of an unpacking in their order: 13, 14, 16. Each law is one return.
+-- The tests of a drawing and of an unpacking in their order, 13, 14, 16: what each return answers, and what is known at the last ones.
 use Prim.Native.Nat.{ℕ, _+_, _*_, _<_}
 use mathlib.Core.Path.{_≡_, refl, sym, _∙_}
 use mathlib.Core.Bool.{Bool, true, false, _||_}

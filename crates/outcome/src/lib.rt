@@ -1,5 +1,5 @@
-// What drawing or unpacking a bitmap answers, from the buffer's length alone: the dry run, and the first
-// of the two passes of every drawing. Nothing is coloured here.
+// What drawing or unpacking a bitmap answers, from the buffer's length alone: the dry run, and the tests
+// that every drawing makes before its first pixel. Nothing is coloured here.
 mod check;
 mod past;
 

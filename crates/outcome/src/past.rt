@@ -81,8 +81,8 @@ pub fn corner_past(columns: u32, n: u16, len: usize, p: usize, stride: u16, scal
     room_from(len, p) < (n as usize - 1) * line * side + (side - 1) * line + columns as usize * side
 }
 
-// Whether 16 refuses n rows and `columns` columns drawn at p, of which row r begins at byte `first` + r × `step`; bytes
-// past the end count 0. The search row by row, for those whose corner does not fit.
+// Whether 16 refuses n rows and `columns` columns drawn at p, of which row r begins at byte `first` + r × `step`;
+// bytes past the end count 0. The search row by row, for those whose corner does not fit.
 pub fn rows_past(
     s: &[u8],
     order: Order,

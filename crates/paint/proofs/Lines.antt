@@ -1,9 +1,8 @@
 -- The pixels of a run of set bits: a line's one after the other, and a bar's line by line.
-use Prim.Native.Nat.{ℕ, _+_, _*_, _-_, _≤_, _<_}
+use Prim.Native.Nat.{ℕ, _+_, _*_, _≤_, _<_}
 use mathlib.Core.Path.{_≡_, refl, ap, _∙_}
 use mathlib.Core.List.{List}
 use native.Mathlib.Omega.{arith}
-use native.Mathlib.Nat.{mul-le-mul-right}
 use lib.Dec.{eqb}
 use lib.ListN.{length, set, length-set}
 use Rattle.bitmaps.specs.Place.{placeAt}
@@ -59,7 +58,3 @@ module _ (old : List ℕ) (at stride scale long colour : ℕ) where
     pub all-lines : scale ≤ a → buf ≡ painted (inBar (placeAt at stride scale) long) colour old
     unfolding inBar barDot inLine
     all-lines h = let e : a ≡ scale = omega arith in rw e at (so-far .is)
-
--- no line lies farther than the last
-pub line-in : (stride a scale : ℕ) → a < scale → a * stride ≤ (scale - 1) * stride
-line-in stride a scale h = mul-le-mul-right stride (omega arith)

@@ -1,5 +1,5 @@
 // The set bits of one byte of a row.
-use crate::block::bar;
+use crate::bar::bar;
 ghost use mathlib.Core.Path.{_≡_};
 ghost use mathlib.Core.Bool.{false};
 ghost use Prim.Native.Nat.{_≤_};

@@ -38,7 +38,7 @@ fn strip(
     let mut r = 0;
     while r < n as usize {
         let held = s[first + r * step as usize];
-        // Most bytes of a glyph are blank, and are looked at no further.
+        // A blank byte is looked at no further.
         if held != 0 {
             let byte = first_columns(shown(order, held), m);
             byte_columns(

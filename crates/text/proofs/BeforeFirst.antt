@@ -33,7 +33,8 @@ use Rattle.utf8.specs.declared.Checked.{Checked}
 use Rattle.utf8.proofs.Walk.{checked-whole, checked-refused}
 use Rattle.text.specs.Walk.{origin, lineHeight}
 use Rattle.text.specs.Text.{textFrom, inText, readyText, ready, drawString}
-use Rattle.text.specs.Within.{Settled, Readable, inked, Inkable}
+use Rattle.text.specs.Within.{Settled, Readable}
+use Rattle.text.specs.Inked.{inked, Inkable}
 use Rattle.text.specs.declared.Layout.{Layout}
 use Rattle.text.specs.declared.Ready.{Ready}
 use Rattle.text.specs.declared.TextDrawn.{TextDrawn}

@@ -16,7 +16,7 @@ use Rattle.bitmaps.proofs.Painting.{painted-none, painted-or}
 use Rattle.utf8.specs.Decode.{Char}
 use Rattle.text.specs.Walk.{lineHeight, placed, placedDrawn, penAfter, inPlaced}
 use Rattle.text.specs.Text.{afterChar, textFrom, inText}
-use Rattle.text.specs.Within.{inked}
+use Rattle.text.specs.Inked.{inked}
 use Rattle.text.specs.declared.Layout.{Layout}
 use Rattle.text.specs.declared.Pen.{Pen}
 use Rattle.text.specs.declared.Placed.{Placed}

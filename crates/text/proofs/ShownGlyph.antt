@@ -16,7 +16,7 @@ use Rattle.place.specs.declared.GlyphInfo.{GlyphInfo}
 use Rattle.glyphs.specs.Glyph.{placeOf, nothingDrawn, glyphDrawn}
 use Rattle.glyphs.proofs.Far.{nothing-leaves}
 use Rattle.text.specs.Walk.{spot, rowsIn, placedDrawn, inPlaced}
-use Rattle.text.specs.Within.{inked, Lent}
+use Rattle.text.specs.Inked.{inked, Lent}
 use Rattle.text.specs.declared.Layout.{Layout}
 use Rattle.text.specs.declared.Pen.{Pen}
 use Rattle.text.specs.declared.Placed.{Placed}

@@ -1,3 +1,4 @@
 pub mod Walk
 pub mod Text
 pub mod Within
+pub mod Inked

@@ -1,19 +1,14 @@
--- What a text's inner functions ask of their arguments, so that no number leaves 64 bits, and what a pass with ink colours. No promise is
--- stated with these.
+-- What a text's inner functions ask of their arguments, so that no number leaves 64 bits. No promise is stated with these.
 use Prim.Native.Nat.{ℕ, _+_, _*_, _≤_}
 use mathlib.Core.Path.{_≡_}
-use mathlib.Core.Bool.{Bool, true, _&&_}
 use mathlib.Core.List.{List}
 use lib.ListN.{length}
 use Rattle.tables.specs.declared.Record.{Record}
 use Rattle.utf8.specs.Decode.{chars, decoded, charsOf}
-use Rattle.text.specs.Walk.{origin, lineHeight}
-use Rattle.text.specs.Text.{textFrom}
+use Rattle.text.specs.Walk.{lineHeight}
 use Rattle.text.specs.declared.Layout.{Layout}
 use Rattle.text.specs.declared.Pen.{Pen}
 use Rattle.text.specs.declared.Placed.{Placed}
-use Rattle.text.specs.declared.TextDrawn.{TextDrawn}
-use Rattle.text.specs.declared.TextRows.{TextRows}
 
 -- the layout is within its limits, and this is its line height
 pub record Settled (rec : Record) (lay : Layout) (line : ℕ) : Type 0 where
@@ -49,16 +44,3 @@ placedPen (Placed.Refused n) old = old
 pub record Readable (text : List ℕ) : Type 0 where
   pub is-chars : decoded text ≡ chars (charsOf (decoded text))
   pub is-short : length text ≤ 65535
-
--- pixel k is one that a pass colours: with ink those of the rule, and none without
-unfoldable pub inked : Bool → (ℕ → Bool) → ℕ → Bool
-inked ink rule k = ink && rule k
-
--- a pass with ink has a buffer of the length that its answer is for
-pub record Lent (ink : Bool) (len pixels : ℕ) : Type 0 where
-  pub same : ink ≡ true → len ≡ pixels
-
--- and nothing refuses its text there
-pub record Inkable (ink : Bool) (s : List ℕ) (rec : Record) (lay : Layout) (len : ℕ) (text : List ℕ) (pixels : ℕ) : Type 0 where
-  pub lent : Lent ink len pixels
-  pub done : ink ≡ true → (rows : TextRows) × (textFrom s rec lay len (charsOf (decoded text)) origin 0 ≡ TextDrawn.Done rows)

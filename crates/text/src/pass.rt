@@ -1,5 +1,5 @@
-// A pass over a text. Each text is walked over twice: without ink for the answer, from the buffer's length alone, and, where
-// nothing refuses, with ink for the pixels. Both are one function, into which what a character does is compiled.
+// A pass over a text. Each text is walked over twice: without ink for the answer, from the buffer's length alone, and,
+// where nothing refuses, with ink for the pixels. Both are one function, into which what a character does is compiled.
 use crate::Layout;
 use crate::Pen;
 use crate::Placed;
@@ -22,7 +22,8 @@ ghost use Rattle.bitmaps.specs.Paint.{painted};
 ghost use Rattle.utf8.specs.Decode.{decoded, charsOf};
 ghost use Rattle.text.specs.Walk.{origin, placedDrawn, inPlaced};
 ghost use Rattle.text.specs.Text.{textFrom, inText};
-ghost use Rattle.text.specs.Within.{Settled, PlacedIn, Readable, inked, Lent, Inkable};
+ghost use Rattle.text.specs.Within.{Settled, PlacedIn, Readable};
+ghost use Rattle.text.specs.Inked.{inked, Lent, Inkable};
 
 // What was placed, drawn into `len` pixels: nothing drawn, or the glyph's rows or refusal.
 fn placed_drawn(

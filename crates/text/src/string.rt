@@ -74,8 +74,9 @@ pub fn text_check(
     let ready = ready_for(bytes, rec, text, lay);
     match ready {
         Ready::Line(line) => {
-            let mut no_pixel = [0; 1];
-            text_pass(bytes, rec, lay, line, len, &mut no_pixel, text, false, 0)
+            // A pass takes a buffer; without ink it colours nothing there.
+            let mut unused = [0; 1];
+            text_pass(bytes, rec, lay, line, len, &mut unused, text, false, 0)
         }
         Ready::Refused(r) => TextDrawn::Refused(r),
     }

@@ -1,5 +1,5 @@
 -- What the tests leave for the unpacking: without a row or a column nothing is stored.
-use Prim.Native.Nat.{ℕ, _≤_}
+use Prim.Native.Nat.{ℕ}
 use mathlib.Core.Path.{_≡_}
 use mathlib.Core.Bool.{true, _||_}
 use mathlib.Core.List.{List}
@@ -16,7 +16,3 @@ pub nothing-stored : (s : List ℕ) (b : BitmapData) (g width height p stride : 
     → old ≡ painted (inUnpacked s b g width p stride height) 1 old
 nothing-stored s b g width height p stride old e =
     no-dots (glyphBit s b g width) (unscaled p stride) (wholeColumns width) height 1 old (λ r c a h l m. nothing-there height width r 0 e h (omega arith))
-
--- the columns that are stored are those of whole bytes
-pub whole-columns : (width : ℕ) → wholeColumns width ≤ wholeColumns width
-whole-columns width = omega arith

@@ -61,7 +61,7 @@ fn strip(
     let mut k = first;
     while r < n as usize {
         let held = s[k];
-        // Most bytes of a glyph are blank, and are looked at no further.
+        // A blank byte is looked at no further.
         if held != 0 {
             unpack_byte(&mut *buf, shown(order, held), at + r * stride as usize);
         }

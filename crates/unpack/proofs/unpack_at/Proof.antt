@@ -1,6 +1,7 @@
 use mathlib.Core.Path.{_≡_}
 use mathlib.Core.Logic.{⊎-elim}
 use native.Mathlib.Omega.{arith}
+use native.Mathlib.Nat.{le-refl}
 use lib.ListN.{length}
 use Rattle.bitmaps.specs.Unpack.{wholeColumns, unscaled, unpackedAt}
 use Rattle.bitmaps.specs.declared.Unpacked.{Unpacked}
@@ -9,7 +10,7 @@ use Rattle.bitmaps.proofs.UnitBits.{Octets}
 use Rattle.bitmaps.proofs.LentRows.{rows-found, from-fits, rows-there, lent-room, lent-drawn}
 use Rattle.bitmaps.proofs.NoDots.{dots-behind}
 use Rattle.outcome.proofs.Tests.{Passed, unpacked-13, unpacked-nothing, unpacked-14, unpacked-16, unpacking-fits, unpacking-searched}
-use Rattle.unpack.proofs.Tested.{nothing-stored, whole-columns}
+use Rattle.unpack.proofs.Tested.{nothing-stored}
 use borrow.Author.Needs.{needs}
 use Rattle.unpack.proofs.unpack_at.Statement.{statement}
 use Rattle.unpack.proofs.unpack_at.Tie as tie
@@ -61,7 +62,7 @@ unpack-at-spec =
     let octets = bytes (known tie.After-shared-slice-known (search)) in
     let order = known tie.After-order-of2 (search) .order-of2 .ensures in (
       (t .found .rows, rows-there _ _ _ _ _ _ _ (t .found) _ order),
-      lent-room _ _ _ _ _ _ _ (t .found) _ order _ _ _ _ (whole-columns _) octets (known tie.Start (search) .args .buf .now) (t .room),
+      lent-room _ _ _ _ _ _ _ (t .found) _ order _ _ _ _ (le-refl _) octets (known tie.Start (search) .args .buf .now) (t .room),
     ))  -- unpack-rows-requires
     (λ c. search needs)  -- same-length
     (λ c.
@@ -69,5 +70,5 @@ unpack-at-spec =
     let octets = bytes (known tie.After-shared-slice-known (search)) in
     let order = known tie.After-order-of2 (search) .order-of2 .ensures in
     let stored = known tie.After-unpack-rows (search) .unpack-rows .ensures in
-    (t .answer, lent-drawn _ _ _ _ _ _ _ (t .found) _ order _ _ _ _ (whole-columns _) octets _ _ _ stored))  -- returns-5
+    (t .answer, lent-drawn _ _ _ _ _ _ _ (t .found) _ order _ _ _ _ (le-refl _) octets _ _ _ stored))  -- returns-5
     (λ c. (passed (search) .answer, dots-behind _ _ _ _ _ _ (omega arith))))  -- returns-6

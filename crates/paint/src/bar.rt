@@ -1,4 +1,4 @@
-// The pixels of a run of set bits.
+// A bar of pixels: the block of a set bit, or of a run of them.
 ghost use mathlib.Core.Path.{_≡_};
 ghost use Prim.Native.Nat.{_+_, _*_, _-_, _≤_};
 ghost use lib.ListN.{length};

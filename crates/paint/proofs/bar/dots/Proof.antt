@@ -1,8 +1,8 @@
 use Prim.Native.Nat.{_-_}
 use native.Mathlib.Omega.{arith}
 use Rattle.paint.proofs.Lines.{Dotted, no-dot, dot-more, all-dots}
-use Rattle.paint.proofs.block.dots.Statement.{statement}
-use Rattle.paint.proofs.block.dots.Tie as tie
+use Rattle.paint.proofs.bar.dots.Statement.{statement}
+use Rattle.paint.proofs.bar.dots.Tie as tie
 
 abbrev Inv-loop : tie.InvT-loop
 Inv-loop buf₀ at n colour b₀ buf b = Dotted buf₀ at n colour buf b
