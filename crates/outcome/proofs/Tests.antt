@@ -1,21 +1,23 @@
 -- The tests of a drawing and of an unpacking in their order, 13, 14, 16: what each return answers, and what is known at the last ones.
-use Prim.Native.Nat.{ℕ, _+_, _*_, _<_}
+use Prim.Native.Nat.{ℕ, _+_, _*_, _≤_, _<_}
 use mathlib.Core.Path.{_≡_, refl, sym, _∙_}
 use mathlib.Core.Bool.{Bool, true, false, _||_}
 use mathlib.Core.List.{List}
 use mathlib.Core.Logic.{⊎-elim}
 use native.Mathlib.Omega.{arith}
+use native.Mathlib.Nat.{le-refl}
 use lib.Dec.{eqb, leb}
 use lib.ListN.{length}
 use borrow.Author.Tests.{eqb-true}
 use Rattle.reads.specs.Said.{refusal}
 use Rattle.tables.specs.declared.BitmapData.{BitmapData}
 use Rattle.bitmaps.specs.Place.{Place, placeAt}
+use Rattle.bitmaps.specs.Paint.{painted}
 use Rattle.bitmaps.specs.Units.{orderOf}
 use Rattle.bitmaps.specs.Rows.{rowBytes, rowStride, bytesPast}
 use Rattle.bitmaps.specs.Cut.{drawnRows}
 use Rattle.bitmaps.specs.Ink.{rowsPast, everyBit, rowStart, rowBits}
-use Rattle.bitmaps.specs.Picture.{unreadable, bitsOf, offsetOf, rowsShort, glyphBit, pixelPast}
+use Rattle.bitmaps.specs.Picture.{unreadable, bitsOf, offsetOf, rowsShort, glyphBit, inPicture, pixelPast}
 use Rattle.bitmaps.specs.Draw.{rowsOf, shownAt}
 use Rattle.bitmaps.specs.Unpack.{wholeColumns, unscaled, unpackedAt}
 use Rattle.bitmaps.specs.declared.Order.{Order}
@@ -24,7 +26,7 @@ use Rattle.bitmaps.specs.declared.Unpacked.{Unpacked}
 use Rattle.bitmaps.proofs.Searching.{or-cases}
 use Rattle.bitmaps.proofs.UnitBits.{Octets}
 use Rattle.bitmaps.proofs.RowsInside.{inside-rows}
-use Rattle.bitmaps.proofs.NoDots.{none-found}
+use Rattle.bitmaps.proofs.NoDots.{none-found, no-dots}
 use Rattle.bitmaps.proofs.LastByte.{glyph-short}
 use Rattle.bitmaps.proofs.LentRows.{Found, past-in-file}
 use Rattle.outcome.proofs.Corner.{corner-free}
@@ -32,16 +34,27 @@ use Rattle.outcome.proofs.Corner.{corner-free}
 -- ---- what the steps tell of 14 and 16
 
 -- without a row or a column
-pub nothing-there : {P : Type 0} (n width r c : ℕ) → eqb n 0 || eqb width 0 ≡ true → r < n → c < width → P
+nothing-there : {P : Type 0} (n width r c : ℕ) → eqb n 0 || eqb width 0 ≡ true → r < n → c < width → P
 nothing-there n width r c e h l =
     ⊎-elim (λ t. absurd (omega (arith, eqb-true n 0 t))) (λ t. absurd (omega (arith, eqb-true width 0 t))) (or-cases (eqb n 0) (eqb width 0) e)
+
+-- the columns of a row are columns of its whole bytes
+pub own-columns : (width : ℕ) → width ≤ wholeColumns width
+own-columns width = omega arith
+
+module _ (s : List ℕ) (b : BitmapData) (g width columns n : ℕ) (at : Place) (whole : columns ≤ wholeColumns width) (e : eqb n 0 || eqb width 0 ≡ true) where
+  no-dot : (r c a : ℕ) → r < n → c < columns → a < at .scale → ⊥
+  no-dot r c a h l m = nothing-there n width r 0 e h (omega arith)
+
+  none-past : (len : ℕ) → pixelPast s b g width columns at n len ≡ false
+  none-past len = none-found (glyphBit s b g width) at columns n no-dot (λ j. leb len j)
+
+  pub nothing-coloured : (colour : ℕ) (old : List ℕ) → old ≡ painted (inPicture s b g width columns at n) colour old
+  nothing-coloured colour old = no-dots (glyphBit s b g width) at columns n colour old no-dot
 
 module _ (s : List ℕ) (b : BitmapData) (g width n : ℕ) where
   none-short : eqb n 0 || eqb width 0 ≡ true → rowsShort s b g width n ≡ false
   none-short e = inside-rows s b g width n (λ r c h l. nothing-there n width r c e h l)
-
-  none-past : (columns len : ℕ) (at : Place) → (0 < columns → 0 < width) → eqb n 0 || eqb width 0 ≡ true → pixelPast s b g width columns at n len ≡ false
-  none-past columns len at few e = none-found (glyphBit s b g width) at columns n (λ r c a h l m. nothing-there n width r 0 e h (few (omega arith))) (λ j. leb len j)
 
   -- where the corner fits, 16 does not refuse
   pub room-fitting : (p stride scale columns len : ℕ) (corner : Bool) → corner ≡ rowsPast everyBit (placeAt p stride scale) columns n len → corner ≡ false
@@ -72,7 +85,7 @@ module _ (s : List ℕ) (b : BitmapData) (g width height len p stride scale : �
     shown-drawn there room = rw (← unread-is, readable, ← n-is, there, room) refl
 
     pub shown-nothing : eqb n 0 || eqb width 0 ≡ true → Drawn.Rows (rowsOf height n) ≡ shownAt s b g width height len (placeAt p stride scale)
-    shown-nothing e = shown-drawn (none-short s b g width n e) (none-past s b g width n width len at (λ h. h) e)
+    shown-nothing e = shown-drawn (none-short s b g width n e) (none-past s b g width width n at (own-columns width) e len)
 
     module _ (first step : ℕ) (short : Bool) (first-is : first ≡ offsetOf s b g)
         (step-is : step ≡ rowStride width (b .pad)) (short-is : short ≡ bytesPast (length (bitsOf s b)) (orderOf b) (rowStart first step) width n) where
@@ -128,7 +141,7 @@ module _ (s : List ℕ) (b : BitmapData) (g width height len p stride : ℕ) (un
 
     pub unpacked-nothing : eqb height 0 || eqb width 0 ≡ true → Unpacked.Rows height ≡ unpackedAt s b g width height len p stride
     unpacked-nothing e =
-        unpacked-all (none-short s b g width height e) (none-past s b g width height (wholeColumns width) len (unscaled p stride) (λ h. omega arith) e)
+        unpacked-all (none-short s b g width height e) (none-past s b g width (wholeColumns width) height (unscaled p stride) (le-refl _) e len)
 
     module _ (first step : ℕ) (short : Bool) (first-is : first ≡ offsetOf s b g)
         (step-is : step ≡ rowStride width (b .pad)) (short-is : short ≡ bytesPast (length (bitsOf s b)) (orderOf b) (rowStart first step) width height) where

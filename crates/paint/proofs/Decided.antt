@@ -1,34 +1,17 @@
--- What is decided before the first pixel is coloured: without a row or a column nothing is, and else the place lies in the buffer and a
--- block has pixels.
+-- What is known once a row and a column are to be drawn: the place lies in the buffer, and a block has pixels.
 use Prim.Native.Nat.{ℕ, _*_, _≤_, _<_, _^_}
 use mathlib.Core.Path.{_≡_}
 use mathlib.Core.Bool.{false, true, _||_}
-use mathlib.Core.List.{List}
 use native.Mathlib.Omega.{arith}
 use lib.Dec.{eqb, leb}
 use mir.Syntax.{w64}
 use mir.Val.{Fits}
 use borrow.Author.Tests.{leb-true, leb-false, eqb-true, eqb-false}
 use Rattle.reads.proofs.Tests.{split}
-use Rattle.tables.specs.declared.BitmapData.{BitmapData}
-use Rattle.bitmaps.specs.Place.{Place, placeAt}
-use Rattle.bitmaps.specs.Paint.{painted}
+use Rattle.bitmaps.specs.Place.{placeAt}
 use Rattle.bitmaps.specs.Cut.{drawnRows}
-use Rattle.bitmaps.specs.Unpack.{wholeColumns}
-use Rattle.bitmaps.specs.Picture.{glyphBit}
-use Rattle.bitmaps.specs.Draw.{inGlyph}
 use Rattle.bitmaps.proofs.CutRule.{drawn-none, drawn-no-scale}
-use Rattle.bitmaps.proofs.NoDots.{no-dots}
 use Rattle.bitmaps.proofs.LentRows.{some-there}
-use Rattle.outcome.proofs.Tests.{nothing-there}
-
-pub nothing-coloured : (s : List ℕ) (b : BitmapData) (g width n colour : ℕ) (at : Place) (old : List ℕ) → eqb n 0 || eqb width 0 ≡ true
-    → old ≡ painted (inGlyph s b g width at n) colour old
-nothing-coloured s b g width n colour at old e = no-dots (glyphBit s b g width) at width n colour old (λ r c a h l m. nothing-there n width r c e h l)
-
--- the columns of a row are columns of its whole bytes
-pub own-columns : (width : ℕ) → width ≤ wholeColumns width
-own-columns width = omega arith
 
 module _ (n width : ℕ) (some : eqb n 0 || eqb width 0 ≡ false) where
   pub some-rows : 1 ≤ n

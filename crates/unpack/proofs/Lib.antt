@@ -1,4 +1,3 @@
 pub mod ByteBits
 pub mod StripRows
 pub mod WholeStrips
-pub mod Tested

@@ -9,8 +9,7 @@ use Rattle.reads.proofs.Places.{known}
 use Rattle.bitmaps.proofs.UnitBits.{Octets}
 use Rattle.bitmaps.proofs.LentRows.{rows-found, from-fits, rows-there, lent-room, lent-drawn}
 use Rattle.bitmaps.proofs.NoDots.{dots-behind}
-use Rattle.outcome.proofs.Tests.{Passed, unpacked-13, unpacked-nothing, unpacked-14, unpacked-16, unpacking-fits, unpacking-searched}
-use Rattle.unpack.proofs.Tested.{nothing-stored}
+use Rattle.outcome.proofs.Tests.{Passed, nothing-coloured, unpacked-13, unpacked-nothing, unpacked-14, unpacked-16, unpacking-fits, unpacking-searched}
 use borrow.Author.Needs.{needs}
 use Rattle.unpack.proofs.unpack_at.Statement.{statement}
 use Rattle.unpack.proofs.unpack_at.Tie as tie
@@ -40,7 +39,7 @@ unpack-at-spec =
     (tie.spec
     (λ c κs. search needs)  -- unreadable-requires
     (λ c. search unpacked-13)  -- returns
-    (λ c. search (unpacked-nothing, nothing-stored))  -- returns-2
+    (λ c. (search unpacked-nothing, nothing-coloured _ _ _ _ _ _ _ (le-refl _) (search) _ _))  -- returns-2
     (λ c κs. search needs)  -- offset-of-requires
     (λ c κs. search needs)  -- row-stride-requires
     (λ c κs. search needs)  -- bytes-past-requires

@@ -7,9 +7,9 @@ use Rattle.bitmaps.specs.Draw.{rowsOf, shownAt}
 use Rattle.bitmaps.specs.declared.Drawn.{Drawn}
 use Rattle.bitmaps.proofs.UnitBits.{Octets}
 use Rattle.bitmaps.proofs.LentRows.{rows-found, from-fits, rows-there, lent-room, lent-drawn}
-use Rattle.outcome.proofs.Tests.{Passed, shown-13, shown-nothing, shown-14, shown-16, drawing-fits, drawing-searched}
+use Rattle.outcome.proofs.Tests.{Passed, own-columns, nothing-coloured, shown-13, shown-nothing, shown-14, shown-16, drawing-fits, drawing-searched}
 use Rattle.reads.proofs.Places.{known}
-use Rattle.paint.proofs.Decided.{nothing-coloured, own-columns, some-scale, place-reached, place-bytes-fit}
+use Rattle.paint.proofs.Decided.{some-scale, place-reached, place-bytes-fit}
 use borrow.Author.Needs.{needs}
 use Rattle.paint.proofs.draw.show_at.Statement.{statement}
 use Rattle.paint.proofs.draw.show_at.Tie as tie
@@ -45,7 +45,7 @@ show-at-spec =
     (λ c. search shown-13)  -- returns
     (λ c κs. search needs)  -- rows-drawn-requires
     (λ c. search needs)  -- sub-t22
-    (λ c. search (shown-nothing, nothing-coloured))  -- returns-2
+    (λ c. (search shown-nothing, nothing-coloured _ _ _ _ _ _ _ (own-columns _) (search) _ _))  -- returns-2
     (λ c κs. search needs)  -- offset-of-requires
     (λ c κs. search needs)  -- row-stride-requires
     (λ c κs. search needs)  -- bytes-past-requires
