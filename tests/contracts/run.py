@@ -30,7 +30,7 @@ def fixed_by(text):
     for crate, name, short in re.findall(r"^use Rattle·(\w+)\.proofs\.(\w+)\.Reads as (\S+)-reads$", text, re.M):
         kinds = f"use Rattle.{crate}.proofs.{name}.Kinds as {short}-kinds"
         s = re.escape(short)
-        theorem = rf"^pub {s}-unique : Fixes(Bytes|Lent|) \d+ {s}-kinds\.ps {s}-kinds\.r {s}-reads\.Post\b"
+        theorem = rf"^pub {s}-unique : Fixes(Part|Lent|) \d+ {s}-kinds\.ps {s}-kinds\.r {s}-reads\.Post\b"
         stated = re.search(theorem, text, re.M)
         if kinds in text.split("\n") and stated:
             yield (crate, name), stated[1] == "Lent"

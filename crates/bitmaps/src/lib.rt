@@ -14,7 +14,6 @@ pub use units::bit_of;
 pub use units::held_byte;
 pub use units::order_of;
 pub use units::row_bytes;
-pub use units::row_end;
 pub use units::shown;
 
 // How the rows of a bitmap table are written: in scan units of 1, 2 or 4 bytes (code 0, 1, 2), the most

@@ -42,7 +42,7 @@ pub fn row_bytes(width: u16) -> u32
 
 // How many bytes from a row's start on hold its columns. Where the byte order of a unit is not the order of its
 // columns, its first column stands in its last byte, and the last unit counts whole.
-pub fn row_end(o: Order, width: u16) -> u32
+pub(crate) fn row_end(o: Order, width: u16) -> u32
     ensures { λ r. ⌜ r ≡ rowEnd o width ⌝ }
 {
     let bytes = row_bytes(width);

@@ -7,13 +7,13 @@ use mathlib.Core.List.{List}
 use lib.ListN.{length, take}
 use lib.Seq.{length-sets, length-take-le}
 use lib.Dec.{ltb}
-use borrow.Author.Tests.{ltb-false}
+use borrow.Author.Tests.{ltb-false, le-ltb}
 use Rattle.reads.proofs.Tests.{never, split}
-use Rattle.tables.specs.Fits.{recordFits}
 use Rattle.tables.specs.declared.Record.{Record}
 use Rattle.frames.specs.Frames.{frameOf}
-use Rattle.frames.specs.Put.{lineInto, lineLeaves, frameInto, frameLeaves}
+use Rattle.frames.specs.Put.{refusedLine, lineInto, lineLeaves, frameInto, frameLeaves, refusedInto, refusedLeaves}
 use Rattle.frames.specs.declared.Printed.{Printed}
+use Rattle.frames.proofs.HasFrame.{frame-line}
 
 abbrev pub isBytes : Printed → Bool
 isBytes (Printed.Bytes n) = true
@@ -35,11 +35,13 @@ line-within line old new r n answer left e =
 
 pub frame-within : (s : List ℕ) (rec : Record) (code : ℕ) (old new : List ℕ) (r : Printed) (n : ℕ)
     → r ≡ frameInto s rec code (length old) → new ≡ frameLeaves s rec code r old → r ≡ Printed.Bytes n → n ≤ length new
-unfolding frameInto
 frame-within s rec code old new r n answer left e =
-    split (recordFits (length s) rec)
-    (λ t. line-within (frameOf s rec code) old new r n (rw t at answer) left e)
-    (λ t. never (ap isBytes (rw t at (sym answer ∙ e))))
+    line-within (frameOf s rec code) old new r n (answer ∙ frame-line s rec code (length old) n (sym answer ∙ e)) left e
+
+pub refused-within : (k : ℕ) (old new : List ℕ) (r : Printed) (n : ℕ) → k ≤ 99
+    → r ≡ refusedInto k (length old) → new ≡ refusedLeaves k r old → r ≡ Printed.Bytes n → n ≤ length new
+unfolding refusedInto
+refused-within k old new r n two answer left e = line-within (refusedLine k) old new r n (rw (le-ltb 99 k two) at answer) left e
 
 pub counted : (n : ℕ) (new : List ℕ) → n ≤ length new → n ≡ length (take n new)
 counted n new within = sym (length-take-le n new within)

@@ -21,6 +21,7 @@ fn unreached()
 
 // The single line `refused NN`.
 fn print_refused(number: u8, out: &mut [u8])
+    requires { ⌜ number ≤ 99 ⌝ }
     requires { ⌜ 11 ≤ length (now out) ⌝ }
 {
     match put_refused(number, out) {
@@ -33,18 +34,20 @@ fn print_refused(number: u8, out: &mut [u8])
     }
 }
 
-// A code's frame, nothing for a code without glyph. In a font that passed no frame is refused.
-fn print_frame(font: &[u8], rec: Record, code: u32, out: &mut [u8])
+// A code's frame, nothing for a code without glyph, which is refused 9. In a font that passed there is no other refusal.
+fn print_frame(font: &[u8], rec: Record, code: CharCode, out: &mut [u8])
     requires { ⌜ vetted (now font) ≡ Vetted.Passed rec ⌝ }
     requires { ⌜ length (now font) ≤ 49152 ⌝ }
     requires { ⌜ 196642 ≤ length (now out) ⌝ }
 {
-    match put_frame(font, rec, CharCode(code), out) {
+    match put_frame(font, rec, code, out) {
         Printed::Bytes(n) => {
             io::write_all(1, &out[..n]);
         }
-        Printed::Refused(_) => {
-            unreached();
+        Printed::Refused(r) => {
+            if r.number != 9 {
+                unreached();
+            }
         }
     }
 }
@@ -57,10 +60,10 @@ fn print_frames(font: &[u8], rec: Record, out: &mut [u8])
     requires { ⌜ 196642 ≤ length (now out) ⌝ }
 {
     let range = code_range(rec.codes);
-    let end = range.end;
-    let mut code = range.low;
+    let end = range.end.0;
+    let mut code = range.low.0;
     while code < end {
-        print_frame(font, rec, code, out);
+        print_frame(font, rec, CharCode(code), out);
         code += 1;
     }
 }

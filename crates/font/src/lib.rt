@@ -21,7 +21,8 @@ ghost use mathlib.Core.Path.{_≡_};
 ghost use lib.ListN.{length};
 ghost use Rattle.bitmaps.specs.Place.{placeAt};
 ghost use Rattle.lookup.specs.Lookup.{getGlyph};
-ghost use Rattle.names.specs.Names.{getName, nameBytes};
+ghost use Rattle.names.specs.Names.{getName, nameBytes, nameAt};
+ghost use Rattle.names.specs.Strings.{movedBy};
 ghost use Rattle.place.specs.Bounds.{dimensions};
 ghost use Rattle.place.specs.Info.{prepChar};
 ghost use Rattle.glyphs.specs.Char.{drawChar, charLeaves};
@@ -53,6 +54,7 @@ impl<'a> Font<'a> {
     // `names::name_bytes`. Empty where `names::get_name` refuses.
     pub fn name_bytes(self, glyph: GlyphIndex) -> &'a [u8]
         ensures { λ r. ⌜ now r ≡ nameBytes (now (self .entry .bytes)) (getName (now (self .entry .bytes)) (self .entry .rec) (glyph .0)) ⌝ }
+        ensures { λ r. ⌜ r .ptr ≡ movedBy (self .entry .bytes .ptr) (nameAt (now (self .entry .bytes)) (getName (now (self .entry .bytes)) (self .entry .rec) (glyph .0))) ⌝ }
     {
         names::name_bytes(self.bytes, self.rec, glyph)
     }

@@ -43,7 +43,3 @@ pub line-put : {line old new : List ℕ} {next : ℕ} → length line ≤ length
     → (Printed.Bytes next ≡ lineInto line (length old)) × (new ≡ sets old 0 line)
 line-put {line} {old} {new} {next} h p =
     (rw (le-ltb (length old) (length line) h) (ap Printed.Bytes (p .up-to ∙ zero-add (length line))), p .stored)
-
--- where there is no line, every buffer has room for it
-pub no-line : (room : ℕ) → Printed.Bytes 0 ≡ lineInto [] room
-no-line room = rw (le-ltb room 0 (omega arith)) refl

@@ -17,10 +17,10 @@ use Rattle.frames.specs.Dump.{dumpVetted, dumpRead, dumped}
 use Rattle.frames.proofs.FramesRange.{frames-range}
 
 abbrev low : Record → ℕ
-low rec = codeRange (rec .codes) .low
+low rec = codeRange (rec .codes) .low .0
 
 abbrev codes : Record → ℕ
-codes rec = codeRange (rec .codes) .end - codeRange (rec .codes) .low
+codes rec = codeRange (rec .codes) .end .0 - codeRange (rec .codes) .low .0
 
 -- vetting, printing and the whole dump, of the range
 abbrev pub vetInRange : List ℕ → Record → Vetted

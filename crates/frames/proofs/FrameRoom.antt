@@ -8,14 +8,11 @@ use native.Mathlib.Omega.{arith}
 use lib.ListN.{length, drop, length-take, length-drop}
 use lib.Dec.{eqb}
 use borrow.Author.Tests.{ltb-false, eqb-true, eqb-false}
-use Rattle.reads.specs.declared.GlyphIndex.{GlyphIndex}
 use Rattle.reads.proofs.Tests.{split}
 use Rattle.tables.specs.Fits.{recordFits}
 use Rattle.tables.proofs.RecordParts.{pad-above-0}
 use Rattle.tables.specs.declared.BitmapData.{BitmapData}
 use Rattle.tables.specs.declared.Record.{Record}
-use Rattle.lookup.specs.Lookup.{glyphOf}
-use Rattle.lookup.specs.declared.Found.{Found}
 use Rattle.names.specs.Names.{nameOf, nameBytes}
 use Rattle.names.specs.declared.Named.{Named}
 use Rattle.bitmaps.specs.Units.{orderOf, unitBytes}
@@ -26,19 +23,13 @@ use Rattle.bitmaps.proofs.DataBytes.{data-length}
 use Rattle.bitmaps.proofs.LastByte.{last-byte}
 use Rattle.bitmaps.proofs.UnitBits.{unit-some}
 use Rattle.bitmaps.proofs.RowEnds.{held-straight, held-mirrored, end-straight, end-mirrored}
-use Rattle.load.proofs.Serves.{loaded-serves}
-use Rattle.metrics.specs.Measure.{glyphMetrics}
-use Rattle.place.specs.Bounds.{boundsOf}
-use Rattle.place.specs.Info.{boxOf, infoOf}
 use Rattle.place.specs.declared.GlyphInfo.{GlyphInfo}
 use Rattle.place.specs.declared.Prepared.{Prepared}
-use Rattle.vet.specs.Vet.{vetted}
-use Rattle.vet.specs.declared.Vetted.{Vetted}
-use Rattle.vet.proofs.PassedCodes.{passed-usable, usable-info}
-use Rattle.vet.proofs.Verdict.{passes-when}
-use Rattle.frames.specs.Frames.{glyphRows, frame, frameInfo, frameFound, frameOf}
+use Rattle.frames.specs.Frames.{glyphRows, frame}
+use Rattle.frames.specs.Framed.{framed}
 use Rattle.frames.proofs.RowRuns.{length-rows, one-more}
 use Rattle.frames.proofs.FrameLength.{length-frame}
+use Rattle.frames.proofs.HasFrame.{framed-rows}
 
 -- rows do not overlap: a stride is no shorter than a row
 stride-covers : (width pad : ℕ) → 0 < pad → rowBytes width ≤ rowStride width pad
@@ -63,11 +54,7 @@ rows-end (suc n) w stride h c =
     let apart : n * w ≤ n * stride = mul-le-mul {n₁ = n} {m₁ = w} {n₂ = n} {m₂ = stride} (omega arith) c in
     rw m (omega (arith, one-more n w))
 
--- 14 does not occur over all rows of this placed glyph
-abbrev pub InData : List ℕ → BitmapData → GlyphInfo → Type 0
-InData s b i = rowsShort s b (i .glyph .0) (i .width) (i .height) ≡ false
-
-module _ (s : List ℕ) (b : BitmapData) (i : GlyphInfo) (pad : 0 < b .pad) (fit : InData s b i) where
+module _ (s : List ℕ) (b : BitmapData) (i : GlyphInfo) (pad : 0 < b .pad) (fit : rowsShort s b (i .glyph .0) (i .width) (i .height) ≡ false) where
   some-rows : 0 < i .width → 0 < i .height → i .height * rowBytes (i .width) ≤ length s
   some-rows w h =
       let stride = rowStride (i .width) (b .pad) in
@@ -94,40 +81,14 @@ pub name-within : (s : List ℕ) (n : Named) → length (nameBytes s n) ≤ leng
 name-within s (Named.Name p) = rw (length-take (p .len) (drop (p .start) s), length-drop (p .start) s) (omega arith)
 name-within s (Named.Refused r) = omega arith
 
-module _ (s : List ℕ) (rec : Record) (code : ℕ) (fits : recordFits (length s) rec ≡ true) where
-  pub frame-room : (i : GlyphInfo) → InData s (rec .bitmaps) i → length (frame s rec code i) ≤ 34 + 4 * length s
-  frame-room i fit =
-      omega (
-        arith,
-        length-frame s rec i code,
-        name-within s (nameOf s (rec .names) (i .glyph .0)),
-        length-rows s (rec .bitmaps) i 0 (i .height),
-        rows-within s (rec .bitmaps) i (pad-above-0 (length s) rec fits) fit,
-      )
-
-  info-room : (p : Prepared) → ((i : GlyphInfo) → p ≡ Prepared.Info i → InData s (rec .bitmaps) i)
-      → length (frameInfo s rec code p) ≤ 34 + 4 * length s
-  info-room (Prepared.Info i) f = frame-room i (f i refl)
-  info-room (Prepared.Refused r) f = omega arith
-
-  found-room : (found : Found)
-      → ((g : GlyphIndex) (i : GlyphInfo) → found ≡ Found.Glyph g → infoOf s rec g ≡ Prepared.Info i → InData s (rec .bitmaps) i)
-      → length (frameFound s rec code found) ≤ 34 + 4 * length s
-  found-room (Found.Glyph g) f = info-room (infoOf s rec g) (λ i e. f g i refl e)
-  found-room (Found.Refused r) f = omega arith
-
-  -- a line of a font whose glyphs' rows lie in its data
-  frame-of-room :
-      ((g : GlyphIndex) (i : GlyphInfo) → glyphOf s (rec .codes) code ≡ Found.Glyph g → infoOf s rec g ≡ Prepared.Info i → InData s (rec .bitmaps) i)
-      → length (frameOf s rec code) ≤ 34 + 4 * length s
-  unfolding frameOf
-  frame-of-room f = found-room (glyphOf s (rec .codes) code) f
-
--- a line of a font that passed: 49,152 bytes need at most 196,642 characters
-pub passed-room : (s : List ℕ) (rec : Record) → vetted s ≡ Vetted.Passed rec → (code : ℕ) → length (frameOf s rec code) ≤ 34 + 4 * length s
-passed-room s rec e code =
-    frame-of-room s rec code (loaded-serves s rec (passes-when s rec .0 e .0)) (λ g i found info.
-    let u = passed-usable s rec e code g found in
-    let same : Prepared.Info (boxOf g (glyphMetrics s (rec .metrics) (g .0)) (boundsOf rec .ascent)) ≡ Prepared.Info i = sym (usable-info s rec g u) ∙ info in
-    let box : boxOf g (glyphMetrics s (rec .metrics) (g .0)) (boundsOf rec .ascent) ≡ i = cc in
-    subst (InData s (rec .bitmaps)) box (u .has-rows))
+-- a frame, of any font that its record fits: 49,152 bytes need at most 196,642 characters
+pub framed-room : (s : List ℕ) (rec : Record) (code : ℕ) (i : GlyphInfo)
+    → recordFits (length s) rec ≡ true → framed s rec code ≡ Prepared.Info i → length (frame s rec code i) ≤ 34 + 4 * length s
+framed-room s rec code i fits e =
+    omega (
+      arith,
+      length-frame s rec i code,
+      name-within s (nameOf s (rec .names) (i .glyph .0)),
+      length-rows s (rec .bitmaps) i 0 (i .height),
+      rows-within s (rec .bitmaps) i (pad-above-0 (length s) rec fits) (framed-rows s rec code i e),
+    )

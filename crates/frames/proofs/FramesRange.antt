@@ -11,6 +11,7 @@ use Rattle.reads.proofs.Tests.{split}
 use Rattle.tables.specs.declared.Record.{Record}
 use Rattle.lookup.specs.CodeRange.{codeRange}
 use Rattle.lookup.proofs.OutsideRange.{outside-none, range-end}
+use Rattle.place.specs.Info.{prepared}
 use Rattle.frames.specs.Frames.{frameOf, framesFrom}
 
 module _ (s : List ℕ) (rec : Record) where
@@ -24,8 +25,8 @@ module _ (s : List ℕ) (rec : Record) where
       rw (e, frames-append m n (code + 1), f)
       (sym (append-assoc (frameOf s rec code) (framesFrom s rec m (code + 1)) (framesFrom s rec n (code + suc m))))
 
-  outside-frame : (code : ℕ) → (code < codeRange (rec .codes) .low) ⊎ (codeRange (rec .codes) .end ≤ code) → frameOf s rec code ≡ []
-  unfolding frameOf
+  outside-frame : (code : ℕ) → (code < codeRange (rec .codes) .low .0) ⊎ (codeRange (rec .codes) .end .0 ≤ code) → frameOf s rec code ≡ []
+  unfolding frameOf prepared
   outside-frame code out = rw (outside-none (rec .codes) code s out) refl
 
   -- codes without a frame print nothing
@@ -35,7 +36,7 @@ module _ (s : List ℕ) (rec : Record) where
   frames-none (suc n) code f = rw (f code (omega arith) (omega arith)) (frames-none n (code + 1) (λ k l h. f k (omega arith) (omega arith)))
 
   -- the frames of the codes below `top`, where the range ends there or earlier
-  frames-below : (low end top : ℕ) → codeRange (rec .codes) .low ≡ low → codeRange (rec .codes) .end ≡ end → end ≤ top
+  frames-below : (low end top : ℕ) → codeRange (rec .codes) .low .0 ≡ low → codeRange (rec .codes) .end .0 ≡ end → end ≤ top
       → framesFrom s rec top 0 ≡ framesFrom s rec (end - low) low
   frames-below low end top l e h =
       split (leb low end)
@@ -60,5 +61,5 @@ module _ (s : List ℕ) (rec : Record) where
 
   -- so a dump asks only the codes of the range
   pub frames-range :
-      framesFrom s rec 65536 0 ≡ framesFrom s rec (codeRange (rec .codes) .end - codeRange (rec .codes) .low) (codeRange (rec .codes) .low)
-  frames-range = frames-below (codeRange (rec .codes) .low) (codeRange (rec .codes) .end) 65536 refl refl (range-end (rec .codes))
+      framesFrom s rec 65536 0 ≡ framesFrom s rec (codeRange (rec .codes) .end .0 - codeRange (rec .codes) .low .0) (codeRange (rec .codes) .low .0)
+  frames-range = frames-below (codeRange (rec .codes) .low .0) (codeRange (rec .codes) .end .0) 65536 refl refl (range-end (rec .codes))

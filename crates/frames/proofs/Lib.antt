@@ -4,7 +4,9 @@ pub mod RowRuns
 pub mod Writing
 pub mod FrameLength
 pub mod Lines
+pub mod HasFrame
 pub mod FrameRoom
+pub mod PassedFrames
 pub mod FramesRange
 pub mod DumpRange
 pub mod DumpNumber

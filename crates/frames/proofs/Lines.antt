@@ -1,4 +1,4 @@
--- A frame's line: the runs that it is made of, how much room it takes, and what is answered where it is short of room or there is none.
+-- A frame's line: the runs that it is made of, how much room it takes, and what is answered where it is short of room.
 use Prim.Native.Nat.{ℕ, _+_, _*_, _/_, _≤_, _<_, max}
 use mathlib.Core.Path.{_≡_, sym, _∙_}
 use mathlib.Core.Bool.{Bool, true}
@@ -16,6 +16,7 @@ use Rattle.lookup.specs.Lookup.{slotOf, glyphOf}
 use Rattle.lookup.specs.declared.Found.{Found}
 use Rattle.names.specs.Names.{nameOf, getName, nameBytes}
 use Rattle.bitmaps.specs.Rows.{rowBytes}
+use Rattle.place.specs.Bounds.{boundsOf}
 use Rattle.place.specs.Info.{infoOf}
 use Rattle.place.specs.declared.GlyphInfo.{GlyphInfo}
 use Rattle.place.specs.declared.Prepared.{Prepared}
@@ -23,7 +24,7 @@ use Rattle.frames.specs.Hex.{hexFour, field, _␣_}
 use Rattle.frames.specs.Frames.{glyphRows, frame, frameInfo, frameOf}
 use Rattle.frames.specs.Put.{Put, lineInto, lineLeaves, frameInto, frameLeaves}
 use Rattle.frames.specs.declared.Printed.{Printed}
-use Rattle.frames.proofs.Chain.{no-room, line-put, no-line}
+use Rattle.frames.proofs.Chain.{no-room, line-put}
 use Rattle.frames.proofs.HexRuns.{length-field}
 use Rattle.frames.proofs.FrameLength.{length-picture, length-frame, name-in}
 
@@ -75,54 +76,3 @@ module _ (s : List ℕ) (rec : Record) (code : ℕ) (i : GlyphInfo) (name : List
     pub line-said : (old new : List ℕ) (next : ℕ) → 32 + (a + b) ≤ length old → Put old 0 (frame s rec code i) next new
         → Printed.Bytes next ≡ lineInto (frame s rec code i) (length old)
     line-said old new next h p = line-put (line-room (length old) h) p .0
-
--- ---- of a glyph, of a code: the answer, and what it leaves
-
-module _ (s : List ℕ) (rec : Record) (code : ℕ) (g : GlyphIndex) (info : Prepared) (info-is : info ≡ infoOf s rec g) where
-  module _ (i : GlyphInfo) (e : info ≡ Prepared.Info i) where
-    pub glyph-said : (r : Printed) (room : ℕ) → r ≡ lineInto (frame s rec code i) room → r ≡ lineInto (frameInfo s rec code (infoOf s rec g)) room
-    glyph-said r room is = rw (← info-is, e) is
-
-    pub glyph-leaves : (r : Printed) (old new : List ℕ) → new ≡ lineLeaves (frame s rec code i) r old → new ≡ lineLeaves (frameInfo s rec code (infoOf s rec g)) r old
-    glyph-leaves r old new is = rw (← info-is, e) is
-
-  module _ (r : Refusal) (e : info ≡ Prepared.Refused r) where
-    pub placeless-said : (room : ℕ) → Printed.Bytes 0 ≡ lineInto (frameInfo s rec code (infoOf s rec g)) room
-    placeless-said room = rw (← info-is, e) (no-line room)
-
-    pub placeless-leaves : (old : List ℕ) → old ≡ sets old 0 (frameInfo s rec code (infoOf s rec g))
-    placeless-leaves old = rw (← info-is, e)
-
-module _ (s : List ℕ) (rec : Record) (code : ℕ) where
-  pub beyond : 65535 < code → frameOf s rec code ≡ []
-  unfolding frameOf glyphOf slotOf
-  beyond h = rw (lt-ltb _ _ h)
-
-  module _ (found : Found) (found-is : found ≡ glyphOf s (rec .codes) code) where
-    pub glyphless : (r : Refusal) → found ≡ Found.Refused r → frameOf s rec code ≡ []
-    unfolding frameOf
-    glyphless r e = rw (← found-is, e)
-
-    pub of-glyph : (g : GlyphIndex) → found ≡ Found.Glyph g → frameOf s rec code ≡ frameInfo s rec code (infoOf s rec g)
-    unfolding frameOf
-    of-glyph g e = rw (← found-is, e)
-
-  pub none-leaves : (old : List ℕ) → frameOf s rec code ≡ [] → old ≡ sets old 0 (frameOf s rec code)
-  none-leaves old e = rw e
-
-  pub code-leaves : (g : GlyphIndex) (r : Printed) (old new : List ℕ) → frameOf s rec code ≡ frameInfo s rec code (infoOf s rec g)
-      → new ≡ lineLeaves (frameInfo s rec code (infoOf s rec g)) r old → new ≡ frameLeaves s rec code r old
-  code-leaves g r old new e is = rw e is
-
-  module _ (fits : Bool) (fits-is : fits ≡ recordFits (length s) rec) (ok : fits ≡ true) where
-    pub is-fit : recordFits (length s) rec ≡ true
-    is-fit = sym fits-is ∙ ok
-
-    pub none-said : (room : ℕ) → frameOf s rec code ≡ [] → Printed.Bytes 0 ≡ frameInto s rec code room
-    unfolding frameInto
-    none-said room e = rw (is-fit, e) (no-line room)
-
-    pub code-said : (g : GlyphIndex) (r : Printed) (room : ℕ) → frameOf s rec code ≡ frameInfo s rec code (infoOf s rec g)
-        → r ≡ lineInto (frameInfo s rec code (infoOf s rec g)) room → r ≡ frameInto s rec code room
-    unfolding frameInto
-    code-said g r room e is = rw (is-fit, e) is

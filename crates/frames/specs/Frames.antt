@@ -4,14 +4,13 @@ use Prim.Native.Nat.{ℕ, zero, suc, _+_}
 use mathlib.Core.List.{List, [], _∷_, _++_}
 use Rattle.tables.specs.declared.BitmapData.{BitmapData}
 use Rattle.tables.specs.declared.Record.{Record}
-use Rattle.lookup.specs.Lookup.{glyphOf}
-use Rattle.lookup.specs.declared.Found.{Found}
 use Rattle.names.specs.Names.{nameOf, nameBytes}
 use Rattle.bitmaps.specs.Units.{orderOf, rowByte}
 use Rattle.bitmaps.specs.Rows.{rowBytes}
 use Rattle.bitmaps.specs.declared.Order.{Order}
 use Rattle.bitmaps.specs.Picture.{bitsOf, rowOf}
-use Rattle.place.specs.Info.{infoOf}
+use Rattle.place.specs.Bounds.{boundsOf}
+use Rattle.place.specs.Info.{prepared}
 use Rattle.place.specs.declared.GlyphInfo.{GlyphInfo}
 use Rattle.place.specs.declared.Prepared.{Prepared}
 use Rattle.frames.specs.Hex.{hexFour, field, _␣_}
@@ -39,13 +38,9 @@ abbrev pub frameInfo : List ℕ → Record → ℕ → Prepared → List ℕ
 frameInfo s rec code (Prepared.Info i) = frame s rec code i
 frameInfo s rec code (Prepared.Refused r) = []
 
-abbrev pub frameFound : List ℕ → Record → ℕ → Found → List ℕ
-frameFound s rec code (Found.Glyph g) = frameInfo s rec code (infoOf s rec g)
-frameFound s rec code (Found.Refused r) = []
-
 -- a code's line; a code without glyph has none
 unfoldable pub frameOf : List ℕ → Record → ℕ → List ℕ
-frameOf s rec code = frameFound s rec code (glyphOf s (rec .codes) code)
+frameOf s rec code = frameInfo s rec code (prepared s (rec .codes) (rec .metrics) (boundsOf rec) code)
 
 -- the lines of the n codes from `code` on, ascending
 unfoldable pub framesFrom : List ℕ → Record → ℕ → ℕ → List ℕ

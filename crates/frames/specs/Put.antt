@@ -11,8 +11,10 @@ use lib.IntN.{pos}
 use Rattle.reads.specs.Said.{Said, refusal, says, refuses}
 use Rattle.tables.specs.Fits.{tested}
 use Rattle.tables.specs.declared.Record.{Record}
+use Rattle.place.specs.declared.Prepared.{Prepared}
 use Rattle.frames.specs.Typed.{typed}
-use Rattle.frames.specs.Frames.{frameOf}
+use Rattle.frames.specs.Frames.{frame, frameOf}
+use Rattle.frames.specs.Framed.{framed}
 use Rattle.frames.specs.declared.Printed.{Printed}
 
 -- `refused NN`: the word, a space, two decimal digits, a newline
@@ -28,16 +30,21 @@ abbrev pub lineLeaves : List ℕ → Printed → List ℕ → List ℕ
 lineLeaves line (Printed.Bytes n) old = sets old 0 line
 lineLeaves line (Printed.Refused r) old = old
 
--- `put_frame`: 6, 15
+-- of what a frame is made of
+abbrev pub framedInto : List ℕ → Record → ℕ → ℕ → Prepared → Printed
+framedInto s rec code room (Prepared.Info i) = lineInto (frame s rec code i) room
+framedInto s rec code room (Prepared.Refused r) = Printed.Refused r
+
+-- `put_frame`: 6, then why there is no frame, then 15
 unfoldable pub frameInto : List ℕ → Record → ℕ → ℕ → Printed
-frameInto s rec code room = tested Printed.Refused s rec (lineInto (frameOf s rec code) room)
+frameInto s rec code room = tested Printed.Refused s rec (framedInto s rec code room (framed s rec code))
 
 abbrev pub frameLeaves : List ℕ → Record → ℕ → Printed → List ℕ → List ℕ
 frameLeaves s rec code answer old = lineLeaves (frameOf s rec code) answer old
 
--- `put_refused`: 15
-abbrev pub refusedInto : ℕ → ℕ → Printed
-refusedInto n room = lineInto (refusedLine n) room
+-- `put_refused`: 15, here also of a number that has more than "two decimal digits"
+unfoldable pub refusedInto : ℕ → ℕ → Printed
+refusedInto n room = cond (ltb 99 n) (Printed.Refused (refusal 15 0)) (lineInto (refusedLine n) room)
 
 abbrev pub refusedLeaves : ℕ → Printed → List ℕ → List ℕ
 refusedLeaves n answer old = lineLeaves (refusedLine n) answer old

@@ -2,13 +2,14 @@
 // what writing one leaves, specs/Dump.antt the whole output.
 mod digits;
 mod frame_line;
+mod framing;
 mod glyph_rows;
 
 use digits::put_one;
 use digits::put_text;
-use frame_line::put_glyph;
-use lookup::Found;
-use lookup::glyph_of;
+use frame_line::put_line;
+use framing::framed;
+use place::Prepared;
 use reads::CharCode;
 use reads::Refusal;
 use tables::Record;
@@ -24,23 +25,20 @@ pub enum Printed {
 }
 
 // Writes the frame of a code at the start of `out`, its newline included, and answers how many bytes
-// it has. A code without a glyph, or whose glyph `place::info_of` refuses, has no frame: 0 bytes. In a
-// font that did not pass vetting, a name that is refused shows as "-" and a row byte past the data as
-// 00.
-// Refused, both with place 0 and `out` as it was: 6 for a record that fails its test with these bytes
-// (`tables::record_fits`), 15 where `out` is shorter than the line.
+// it has. Refused, all with place 0 and `out` as it was: 6 for a record that fails its test with these
+// bytes (`tables::record_fits`); 9 for a code without a glyph; where the font did not pass vetting also
+// 10 and 11 for the glyph's metrics, 12 for a glyph without a bitmap, 13 for a scan unit code other than
+// 0, 1, 2 or a scan unit wider than the row pad, 14 where a byte that holds columns of a row lies beyond
+// the bitmap data, 17 and 18 for its name; then 15 where `out` is shorter than the line.
 pub fn put_frame(bytes: &[u8], rec: Record, code: CharCode, out: &mut [u8]) -> Printed
     ensures { λ r. ⌜ r ≡ frameInto (now (bytes .entry)) rec (code .0) (length (now (out .entry))) ⌝ }
     ensures { λ r. ⌜ now (out .exit) ≡ frameLeaves (now (bytes .entry)) rec (code .0) r (now (out .entry)) ⌝ }
 {
     if record_fits(bytes.len(), rec) {
-        if 65535 < code.0 {
-            return Printed::Bytes(0);
-        }
-        let found = glyph_of(bytes, rec.codes, code);
-        match found {
-            Found::Glyph(g) => put_glyph(bytes, rec, code.0 as u16, g, out),
-            Found::Refused(_) => Printed::Bytes(0),
+        let ready = framed(bytes, rec, code);
+        match ready {
+            Prepared::Info(i) => put_line(bytes, rec, code, i, out),
+            Prepared::Refused(r) => Printed::Refused(r),
         }
     } else {
         Printed::Refused(Refusal {
@@ -50,12 +48,18 @@ pub fn put_frame(bytes: &[u8], rec: Record, code: CharCode, out: &mut [u8]) -> P
     }
 }
 
-// Writes the line `refused NN` of a refusal's number, which has at most two digits: 11 bytes with its
-// newline, at the start of `out`. 15, with place 0 and `out` as it was, where `out` is shorter.
+// Writes the line `refused NN` of a refusal's number: 11 bytes with its newline, at the start of `out`.
+// Refused: 15, with place 0 and `out` as it was, for a number above 99, and where `out` is shorter.
 pub fn put_refused(number: u8, out: &mut [u8]) -> Printed
     ensures { λ r. ⌜ r ≡ refusedInto number (length (now (out .entry))) ⌝ }
     ensures { λ r. ⌜ now (out .exit) ≡ refusedLeaves number r (now (out .entry)) ⌝ }
 {
+    if 99 < number {
+        return Printed::Refused(Refusal {
+            number: 15,
+            place: 0,
+        });
+    }
     if out.len() < 11 {
         return Printed::Refused(Refusal {
             number: 15,

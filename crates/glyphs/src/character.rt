@@ -43,7 +43,7 @@ fn char_ready(
         ok_place(start, stride, scale),
     );
     match permit {
-        Permit::Given => char_info(bytes, rec, code),
+        Permit::Given => char_info(bytes, rec.codes, rec.metrics, rec.accel.maxbounds, code),
         Permit::Refused(r) => Prepared::Refused(r),
     }
 }

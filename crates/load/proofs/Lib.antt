@@ -2,4 +2,5 @@ mod Loading
 pub mod Entries
 pub mod LastServes
 mod TablesFit
+pub mod Refusals
 pub mod Serves

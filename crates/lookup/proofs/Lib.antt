@@ -1,3 +1,4 @@
 pub mod EntryInside
 pub mod OutsideRange
+pub mod Refusals
 pub mod Slots

@@ -16,7 +16,7 @@ use Rattle.lookup.specs.declared.Slot.{Slot}
 
 module _ (c : EncodingData) (code : ℕ) where
   abbrev Outside : Type 0
-  Outside = (code < codeRange c .low) ⊎ (codeRange c .end ≤ code)
+  Outside = (code < codeRange c .low .0) ⊎ (codeRange c .end .0 ≤ code)
 
   outside-slot : Outside → slotOf c code ≡ Slot.Nothing
   unfolding slotOf codeRange
@@ -44,6 +44,6 @@ module _ (c : EncodingData) (code : ℕ) where
   outside-none s out = rw (outside-slot out) refl
 
 -- no code of the range exceeds 65,535
-pub range-end : (c : EncodingData) → codeRange c .end ≤ 65536
+pub range-end : (c : EncodingData) → codeRange c .end .0 ≤ 65536
 unfolding codeRange
 range-end c = omega arith

@@ -105,15 +105,15 @@ module _ (s : List ℕ) (rec : Record) (code : ℕ) (fits : Bool) (fits-is : fit
 -- ---- the range of codes
 
 module _ (c : EncodingData) (one : Bool) (one-is : one ≡ oneByte c) where
-  pub range-one : one ≡ true → c .high2 < 65536 → record { low = c .low2; end = c .high2 + 1 } ≡ codeRange c
+  pub range-one : one ≡ true → c .high2 < 65536 → record { low = record { 0 = c .low2 }; end = record { 0 = c .high2 + 1 } } ≡ codeRange c
   unfolding codeRange
   range-one t h = let e : min (c .high2 + 1) 65536 ≡ c .high2 + 1 = omega arith in rw (← one-is, t, e)
 
   module _ (two : one ≡ false) where
-    pub range-full : 255 ≤ c .high1 → record { low = 256 * c .low1; end = 65536 } ≡ codeRange c
+    pub range-full : 255 ≤ c .high1 → record { low = record { 0 = 256 * c .low1 }; end = record { 0 = 65536 } } ≡ codeRange c
     unfolding codeRange
     range-full h = let e : min (256 * c .high1 + 256) 65536 ≡ 65536 = omega arith in rw (← one-is, two, e)
 
-    pub range-two : c .high1 < 255 → record { low = 256 * c .low1; end = 256 * c .high1 + 256 } ≡ codeRange c
+    pub range-two : c .high1 < 255 → record { low = record { 0 = 256 * c .low1 }; end = record { 0 = 256 * c .high1 + 256 } } ≡ codeRange c
     unfolding codeRange
     range-two h = let e : min (256 * c .high1 + 256) 65536 ≡ 256 * c .high1 + 256 = omega arith in rw (← one-is, two, e)

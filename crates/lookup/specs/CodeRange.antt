@@ -16,4 +16,4 @@ pastCodes c = cond (oneByte c) (c .high2 + 1) (256 * c .high1 + 256)
 
 -- "any code above 65,535 [has] no glyph"
 unfoldable pub codeRange : EncodingData → CodeRange
-codeRange c = record { low = leastCode c; end = min (pastCodes c) 65536 }
+codeRange c = record { low = record { 0 = leastCode c }; end = record { 0 = min (pastCodes c) 65536 } }

@@ -25,8 +25,8 @@ pub enum Slot {
 // The codes that may have a glyph: from `low` on, up to but not with `end`.
 #[repr(C)]
 pub struct CodeRange {
-    pub low: u32,
-    pub end: u32,
+    pub low: CharCode,
+    pub end: CharCode,
 }
 
 // Whether codes are one number, and not two bytes.
@@ -137,16 +137,19 @@ pub fn code_range(c: EncodingData) -> CodeRange
     let high1 = c.high1 as u32;
     if one_byte(c) {
         return CodeRange {
-            low: c.low2 as u32,
-            end: c.high2 as u32 + 1,
+            low: CharCode(c.low2 as u32),
+            end: CharCode(c.high2 as u32 + 1),
         };
     }
-    let low = 256 * (c.low1 as u32);
+    let low = CharCode(256 * (c.low1 as u32));
     if 255 <= high1 {
-        return CodeRange { low, end: 65536 };
+        return CodeRange {
+            low,
+            end: CharCode(65536),
+        };
     }
     CodeRange {
         low,
-        end: 256 * high1 + 256,
+        end: CharCode(256 * high1 + 256),
     }
 }

@@ -14,8 +14,8 @@ use Rattle.reads.specs.declared.Refusal.{Refusal}
 use Rattle.tables.specs.Fits.{inside}
 use Rattle.tables.specs.declared.GlyphNameData.{GlyphNameData}
 use Rattle.tables.specs.declared.Record.{Record}
-use Rattle.names.specs.Names.{nameOf, getName, nameBytes}
-use Rattle.names.specs.Strings.{zeroFrom, stringAt, partOf}
+use Rattle.names.specs.Names.{nameOf, getName, nameBytes, nameAt}
+use Rattle.names.specs.Strings.{zeroFrom, stringAt, partOf, partAt, movedBy}
 use Rattle.names.specs.declared.Named.{Named}
 use Rattle.names.specs.declared.Span.{Span}
 use Rattle.names.specs.declared.Zero.{Zero}
@@ -61,5 +61,13 @@ module _ (s : List ℕ) (rec : Record) (g : ℕ) (named : Named) (named-is : nam
   pub name-found : (p : Span) (r : List ℕ) → named ≡ Named.Name p → r ≡ partOf s p → r ≡ nameBytes s (getName s rec g)
   name-found p r e is = rw (← named-is, e) is
 
+  pub name-stands : (p : Span) (at here : ℕ × ℕ) → named ≡ Named.Name p → here ≡ movedBy at (partAt s p) → here ≡ movedBy at (nameAt s (getName s rec g))
+  name-stands p at here e is = rw (← named-is, e) is
+
   pub name-empty : (r : Refusal) → named ≡ Named.Refused r → [] ≡ nameBytes s (getName s rec g)
   name-empty r e = rw (← named-is, e)
+
+  pub empty-stands : (r : Refusal) (at : ℕ × ℕ) → named ≡ Named.Refused r → at ≡ movedBy at (nameAt s (getName s rec g))
+  empty-stands r at e =
+      let not-moved : at .1 ≡ 0 + at .1 = omega arith in
+      rw (← named-is, e) (λ i. (at .0, not-moved i))

@@ -10,7 +10,7 @@ use Rattle.reads.specs.Said.{Said, refusal, says, refuses}
 use Rattle.tables.specs.Fits.{tested}
 use Rattle.tables.specs.declared.GlyphNameData.{GlyphNameData}
 use Rattle.tables.specs.declared.Record.{Record}
-use Rattle.names.specs.Strings.{stringAt, partOf}
+use Rattle.names.specs.Strings.{stringAt, partOf, partAt}
 use Rattle.names.specs.declared.Named.{Named}
 
 -- glyph g's name, or 17, 18
@@ -27,6 +27,11 @@ getName s rec g = tested Named.Refused s rec (nameOf s (rec .names) g)
 abbrev pub nameBytes : List ℕ → Named → List ℕ
 nameBytes s (Named.Name p) = partOf s p
 nameBytes s (Named.Refused r) = []
+
+-- where it stands among them, counted from the first; the empty part of a refusal stands at the first
+abbrev pub nameAt : List ℕ → Named → ℕ
+nameAt s (Named.Name p) = partAt s p
+nameAt s (Named.Refused r) = 0
 
 abbrev pub saidNamed : Named → Said
 saidNamed (Named.Name p) = says (pos (p .start) ∷ pos (p .len) ∷ [])

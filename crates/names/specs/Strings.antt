@@ -1,6 +1,6 @@
 -- A string of a font: "the part of the font's own bytes up to its zero byte". From document 01, refusal 18 "string offset beyond
 -- the string data, or no zero byte at or after it".
-use Prim.Native.Nat.{ℕ, zero, suc, _+_, _-_, _≤_, _<_}
+use Prim.Native.Nat.{ℕ, zero, suc, _+_, _-_, _≤_, _<_, min}
 use mathlib.Core.Path.{_≡_}
 use mathlib.Core.Bool.{cond}
 use mathlib.Core.List.{List}
@@ -36,3 +36,11 @@ EndsIn s strings size from = (k : ℕ) × (from ≤ k) × (k < size) × (byteAt 
 -- the bytes of a span
 abbrev pub partOf : List ℕ → Span → List ℕ
 partOf s p = take (p .len) (drop (p .start) s)
+
+-- where they stand among the bytes, counted from the first: at the end where the span starts past it
+abbrev pub partAt : List ℕ → Span → ℕ
+partAt s p = min (p .start) (length s)
+
+-- the pointer of "the part of the font's own bytes" that begins n bytes further on: the same block, that offset
+abbrev pub movedBy : ℕ × ℕ → ℕ → ℕ × ℕ
+movedBy at n = (at .0, n + at .1)

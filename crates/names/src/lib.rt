@@ -10,7 +10,8 @@ use tables::GlyphNameData;
 use tables::Record;
 use tables::record_fits;
 ghost use mathlib.Core.Path.{_≡_};
-ghost use Rattle.names.specs.Names.{nameOf, getName, nameBytes};
+ghost use Rattle.names.specs.Names.{nameOf, getName, nameBytes, nameAt};
+ghost use Rattle.names.specs.Strings.{movedBy};
 
 // A part of the font's bytes: `len` of them from `start` on.
 #[repr(C)]
@@ -67,6 +68,7 @@ pub fn get_name(bytes: &[u8], rec: Record, glyph: GlyphIndex) -> Named
 // The name itself, a part of the font's own bytes; empty where `get_name` refuses.
 pub fn name_bytes(bytes: &[u8], rec: Record, glyph: GlyphIndex) -> &[u8]
     ensures { λ r. ⌜ now r ≡ nameBytes (now (bytes .entry)) (getName (now (bytes .entry)) rec (glyph .0)) ⌝ }
+    ensures { λ r. ⌜ r .ptr ≡ movedBy (bytes .entry .ptr) (nameAt (now (bytes .entry)) (getName (now (bytes .entry)) rec (glyph .0))) ⌝ }
 {
     match get_name(bytes, rec, glyph) {
         Named::Name(p) => part_of(bytes, p),

@@ -3,11 +3,12 @@ use crate::Named;
 use crate::Span;
 use crate::Zero;
 use reads::Refusal;
+use reads::reach;
 use tables::is_inside;
 ghost use mathlib.Core.Path.{_≡_};
 ghost use Prim.Native.Nat.{_+_, _≤_};
 ghost use lib.ListN.{length};
-ghost use Rattle.names.specs.Strings.{zeroFrom, stringAt, partOf};
+ghost use Rattle.names.specs.Strings.{zeroFrom, stringAt, partOf, movedBy, partAt};
 
 // How many of the `left` bytes from `at` on stand before the first zero byte.
 fn find_end(s: &[u8], at: usize, left: usize) -> Zero
@@ -54,17 +55,17 @@ pub fn string_at(s: &[u8], strings: usize, size: usize, from: usize) -> Named
     }
 }
 
-// The bytes of a span; where it runs past the end, those up to the end.
+// The bytes of a span, where they stand in the font's bytes; of a span that runs past the end those that there
+// are, and of one that starts past it none, at the end.
 pub fn part_of(bytes: &[u8], span: Span) -> &[u8]
     ensures { λ r. ⌜ now r ≡ partOf (now (bytes .entry)) span ⌝ }
+    ensures { λ r. ⌜ r .ptr ≡ movedBy (bytes .entry .ptr) (partAt (now (bytes .entry)) span) ⌝ }
 {
-    let start = span.start;
+    let start = reach(bytes.len(), span.start, 0);
     let len = span.len;
-    if bytes.len() < start {
-        return &bytes[..0];
+    let rest = &bytes[start..];
+    if rest.len() <= len {
+        return rest;
     }
-    if bytes.len() - start < len {
-        return &bytes[start..];
-    }
-    &bytes[start..start + len]
+    &rest[..len]
 }

@@ -1,3 +1,4 @@
 pub mod Whole
 pub mod Held
 pub mod Placing
+pub mod Refusals

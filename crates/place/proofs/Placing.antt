@@ -12,8 +12,9 @@ use Rattle.reads.specs.Said.{refusal}
 use Rattle.reads.specs.declared.GlyphIndex.{GlyphIndex}
 use Rattle.reads.specs.declared.Refusal.{Refusal}
 use Rattle.reads.proofs.Signed.{back}
+use Rattle.tables.specs.declared.EncodingData.{EncodingData}
+use Rattle.tables.specs.declared.MetricsData.{MetricsData}
 use Rattle.tables.specs.declared.MetricsUnpacked.{MetricsUnpacked}
-use Rattle.tables.specs.declared.Record.{Record}
 use Rattle.lookup.specs.Lookup.{glyphOf}
 use Rattle.lookup.specs.declared.Found.{Found}
 use Rattle.metrics.specs.Measure.{metricsOf}
@@ -120,21 +121,22 @@ module _ (g : GlyphIndex) (m : MetricsUnpacked) (top : ℤ) (t : Short top) (can
 
 -- ---- a glyph and a character
 
-module _ (s : List ℕ) (rec : Record) (g : GlyphIndex) (measured : Measured) (measured-is : measured ≡ metricsOf s (rec .metrics) (g .0)) where
-  pub info-refused : (r : Refusal) → measured ≡ Measured.Refused r → Prepared.Refused r ≡ infoOf s rec g
-  unfolding infoOf
-  info-refused r e = rw (← measured-is, e)
+module _ (s : List ℕ) (metrics : MetricsData) (bounds : MetricsUnpacked) where
+  module _ (g : GlyphIndex) (measured : Measured) (measured-is : measured ≡ metricsOf s metrics (g .0)) where
+    pub info-refused : (r : Refusal) → measured ≡ Measured.Refused r → Prepared.Refused r ≡ infoOf s metrics bounds g
+    unfolding infoOf
+    info-refused r e = rw (← measured-is, e)
 
-  pub info-boxed : (m : MetricsUnpacked) (r : Prepared) → measured ≡ Measured.Metrics m → Short (rec .accel .maxbounds .ascent)
-      → r ≡ boxed g m (short (rec .accel .maxbounds .ascent)) → r ≡ infoOf s rec g
-  unfolding infoOf
-  info-boxed m r e t is = rw (← measured-is, e) (rw (back w16 (rec .accel .maxbounds .ascent) t) at is)
+    pub info-boxed : (m : MetricsUnpacked) (r : Prepared) → measured ≡ Measured.Metrics m → Short (bounds .ascent)
+        → r ≡ boxed g m (short (bounds .ascent)) → r ≡ infoOf s metrics bounds g
+    unfolding infoOf
+    info-boxed m r e t is = rw (← measured-is, e) (rw (back w16 (bounds .ascent) t) at is)
 
-module _ (s : List ℕ) (rec : Record) (code : ℕ) (found : Found) (found-is : found ≡ glyphOf s (rec .codes) code) where
-  pub char-refused : (r : Refusal) → found ≡ Found.Refused r → Prepared.Refused r ≡ prepared s rec code
-  unfolding prepared
-  char-refused r e = rw (← found-is, e)
+  module _ (codes : EncodingData) (code : ℕ) (found : Found) (found-is : found ≡ glyphOf s codes code) where
+    pub char-refused : (r : Refusal) → found ≡ Found.Refused r → Prepared.Refused r ≡ prepared s codes metrics bounds code
+    unfolding prepared
+    char-refused r e = rw (← found-is, e)
 
-  pub char-placed : (g : GlyphIndex) (r : Prepared) → found ≡ Found.Glyph g → r ≡ infoOf s rec g → r ≡ prepared s rec code
-  unfolding prepared
-  char-placed g r e is = rw (← found-is, e) is
+    pub char-placed : (g : GlyphIndex) (r : Prepared) → found ≡ Found.Glyph g → r ≡ infoOf s metrics bounds g → r ≡ prepared s codes metrics bounds code
+    unfolding prepared
+    char-placed g r e is = rw (← found-is, e) is

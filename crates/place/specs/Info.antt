@@ -9,6 +9,8 @@ use lib.Signed.{nonNeg, leZ}
 use Rattle.reads.specs.Said.{Said, refusal, says, refuses}
 use Rattle.reads.specs.declared.GlyphIndex.{GlyphIndex}
 use Rattle.tables.specs.Fits.{tested}
+use Rattle.tables.specs.declared.EncodingData.{EncodingData}
+use Rattle.tables.specs.declared.MetricsData.{MetricsData}
 use Rattle.tables.specs.declared.MetricsUnpacked.{MetricsUnpacked}
 use Rattle.tables.specs.declared.Record.{Record}
 use Rattle.lookup.specs.Lookup.{glyphOf}
@@ -41,22 +43,21 @@ abbrev pub withMetrics : Measured → (MetricsUnpacked → Prepared) → Prepare
 withMetrics (Measured.Metrics m) rest = rest m
 withMetrics (Measured.Refused r) rest = Prepared.Refused r
 
--- a glyph placed: 10, 11
-unfoldable pub infoOf : List ℕ → Record → GlyphIndex → Prepared
-infoOf s rec g =
-    withMetrics (metricsOf s (rec .metrics) (g .0)) (λ m. boxed g m (boundsOf rec .ascent))
+-- a glyph placed under the maximum bounds: 10, 11
+unfoldable pub infoOf : List ℕ → MetricsData → MetricsUnpacked → GlyphIndex → Prepared
+infoOf s metrics bounds g = withMetrics (metricsOf s metrics (g .0)) (λ m. boxed g m (bounds .ascent))
 
 abbrev pub withGlyph : Found → (GlyphIndex → Prepared) → Prepared
 withGlyph (Found.Glyph g) rest = rest g
 withGlyph (Found.Refused r) rest = Prepared.Refused r
 
 -- a character placed: 9, 10, 11
-unfoldable pub prepared : List ℕ → Record → ℕ → Prepared
-prepared s rec code = withGlyph (glyphOf s (rec .codes) code) (λ g. infoOf s rec g)
+unfoldable pub prepared : List ℕ → EncodingData → MetricsData → MetricsUnpacked → ℕ → Prepared
+prepared s codes metrics bounds code = withGlyph (glyphOf s codes code) (λ g. infoOf s metrics bounds g)
 
 -- `prep_char`: 6, 9, 10, 11
 unfoldable pub prepChar : List ℕ → Record → ℕ → Prepared
-prepChar s rec code = tested Prepared.Refused s rec (prepared s rec code)
+prepChar s rec code = tested Prepared.Refused s rec (prepared s (rec .codes) (rec .metrics) (boundsOf rec) code)
 
 abbrev pub infoValues : GlyphInfo → List ℤ
 infoValues i = pos (i .glyph .0) ∷ pos (i .width) ∷ pos (i .height) ∷ pos (i .«pad_top») ∷ pos (i .«pad_left») ∷ []

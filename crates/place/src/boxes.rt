@@ -13,6 +13,8 @@ use metrics::metrics_of;
 use reads::CharCode;
 use reads::GlyphIndex;
 use reads::Refusal;
+use tables::EncodingData;
+use tables::MetricsData;
 use tables::MetricsUnpacked;
 use tables::Record;
 use tables::record_fits;
@@ -68,25 +70,31 @@ pub fn boxed(g: GlyphIndex, m: MetricsUnpacked, top: i16) -> Prepared
     })
 }
 
-// A glyph's box, or 10, 11. Does not test the record: bytes past the end read as 0.
-pub fn info_of(s: &[u8], rec: Record, g: GlyphIndex) -> Prepared
-    ensures { λ r. ⌜ r ≡ infoOf (now (s .entry)) rec g ⌝ }
+// A glyph's box under the maximum bounds, or 10, 11. Bytes past the end read as 0.
+pub fn info_of(s: &[u8], metrics: MetricsData, bounds: MetricsUnpacked, g: GlyphIndex) -> Prepared
+    ensures { λ r. ⌜ r ≡ infoOf (now (s .entry)) metrics bounds g ⌝ }
 {
-    let top = rec.accel.maxbounds.ascent;
-    let measured = metrics_of(s, rec.metrics, g);
+    let top = bounds.ascent;
+    let measured = metrics_of(s, metrics, g);
     match measured {
         Measured::Metrics(m) => boxed(g, m, top),
         Measured::Refused(r) => Prepared::Refused(r),
     }
 }
 
-// A character's box, or 9, 10, 11. Does not test the record.
-pub fn char_info(s: &[u8], rec: Record, code: CharCode) -> Prepared
-    ensures { λ r. ⌜ r ≡ prepared (now (s .entry)) rec (code .0) ⌝ }
+// A character's box under the maximum bounds, or 9, 10, 11.
+pub fn char_info(
+    s: &[u8],
+    codes: EncodingData,
+    metrics: MetricsData,
+    bounds: MetricsUnpacked,
+    code: CharCode,
+) -> Prepared
+    ensures { λ r. ⌜ r ≡ prepared (now (s .entry)) codes metrics bounds (code .0) ⌝ }
 {
-    let found = glyph_of(s, rec.codes, code);
+    let found = glyph_of(s, codes, code);
     match found {
-        Found::Glyph(g) => info_of(s, rec, g),
+        Found::Glyph(g) => info_of(s, metrics, bounds, g),
         Found::Refused(r) => Prepared::Refused(r),
     }
 }
@@ -98,7 +106,7 @@ pub fn prep_char(bytes: &[u8], rec: Record, code: CharCode) -> Prepared
     ensures { λ r. ⌜ r ≡ prepChar (now (bytes .entry)) rec (code .0) ⌝ }
 {
     if record_fits(bytes.len(), rec) {
-        char_info(bytes, rec, code)
+        char_info(bytes, rec.codes, rec.metrics, rec.accel.maxbounds, code)
     } else {
         Prepared::Refused(Refusal {
             number: 6,

@@ -29,9 +29,10 @@ use Rattle.glyphs.specs.Glyph.{placeOf, okInfo, glyphDrawn, glyphReady, drawGly
 use Rattle.glyphs.specs.Char.{withInfo, charOf, charReady, drawChar, saidChar}
 use Rattle.glyphs.specs.Unpack.{glyphUnpacked, unpackGlyph}
 use Rattle.utf8.specs.Step.{stepAt, saidStep}
-use Rattle.utf8.specs.Decode.{Char, Decoded, chars, refused, decoded, charsOf, checked}
+use Rattle.utf8.specs.Decode.{Char, decoded, charsOf, checkedText}
+use Rattle.utf8.specs.declared.Checked.{Checked}
 use Rattle.utf8.specs.declared.Step.{Step}
-use Rattle.utf8.proofs.Accepts.{refuses-at}
+use Rattle.utf8.proofs.Accepts.{refused-text}
 use Rattle.utf8.proofs.Characters.{step-refused}
 use Rattle.text.specs.Walk.{origin, placeInfo, placeFound, placed, placedDrawn, penAfter}
 use Rattle.text.specs.Text.{afterChar, textFrom, readyText, ready, whenReady, drawString, saidText}
@@ -40,9 +41,9 @@ use Rattle.text.specs.declared.Pen.{Pen}
 use Rattle.text.specs.declared.Placed.{Placed}
 use Rattle.text.specs.declared.Ready.{Ready}
 use Rattle.text.specs.declared.TextDrawn.{TextDrawn}
+use Rattle.place.proofs.Refusals.{info-of-refusals, char-info-refusals}
 use Rattle.promises.specs.Refusals.{ofPlacing, ofDrawing, Refusals}
 use Rattle.promises.proofs.RecordTest.{guarded-refusals}
-use Rattle.promises.proofs.Refusals.{info-of-refusals, char-info-refusals}
 
 -- past the tests
 
@@ -77,7 +78,7 @@ module _ (s : List ℕ) (rec : Record) (lay : Layout) (len : ℕ) where
   placed-refusals code pen =
       whichever saidPlaced (eqb code 13) has-values (whichever saidPlaced (eqb code 10) has-values (by (glyphOf s (rec .codes) code))) where
         by : (x : Found) → NumberedBy (ofPlacing ++ ofDrawing) (saidPlaced (placeFound s rec lay pen x))
-        by (Found.Glyph g) = place-info pen (infoOf s rec g) (info-of-refusals s rec g)
+        by (Found.Glyph g) = place-info pen (infoOf s (rec .metrics) (boundsOf rec) g) (info-of-refusals s (rec .metrics) (boundsOf rec) g)
         by (Found.Refused r) = has-values
 
   after-char : (x : Drawn) (byte : ℕ) (rest : ℕ → TextDrawn) → NumberedBy (ofPlacing ++ ofDrawing) (saidDrawn x)
@@ -155,25 +156,24 @@ module _ (s : List ℕ) (rec : Record) where
     pub draw-char-refusals : Refusals s rec (6 ∷ 15 ∷ 9 ∷ (ofPlacing ++ ofDrawing)) (saidChar (drawChar s rec code len at))
     unfolding drawChar charReady
     draw-char-refusals =
-        guarded-refusals s rec saidWith Prepared.Refused (λ r. refl) (okPlace at) (prepared s rec code) refl
-        (λ fits. placed-char (prepared s rec code) (char-info-refusals s rec code))
+        guarded-refusals s rec saidWith Prepared.Refused (λ r. refl) (okPlace at) (prepared s (rec .codes) (rec .metrics) (boundsOf rec) code) refl
+        (λ fits. placed-char (prepared s (rec .codes) (rec .metrics) (boundsOf rec) code) (char-info-refusals s (rec .metrics) (boundsOf rec) (rec .codes) code))
 
   module _ (text : List ℕ) (len : ℕ) (lay : Layout) where
     -- what the tests before the first character say, with the rest
     abbrev saidReady : Ready → Said
     saidReady x = saidText (whenReady x (textFrom s rec lay len (charsOf (decoded text)) origin 0))
 
-    decoded-refusals : (d : Decoded) → decoded text ≡ d → NumberedBy (19 ∷ 11 ∷ (ofPlacing ++ ofDrawing)) (saidReady (readyText rec lay d))
-    decoded-refusals (chars cs) e =
+    checked-refusals : (a : Checked) → checkedText text ≡ a → NumberedBy (19 ∷ 11 ∷ (ofPlacing ++ ofDrawing)) (saidReady (readyText rec lay a))
+    checked-refusals Checked.Whole e =
         whichever saidReady (boundsHold (boundsOf rec)) (wider refl (text-refusals s rec lay len (charsOf (decoded text)) origin 0)) (has-number refl)
-    decoded-refusals (refused r) e = has-number (rw (refuses-at text r .0 (ap checked e) .0) refl)
+    checked-refusals (Checked.Refused r) e = has-number (rw (refused-text text r e .0) refl)
 
     pub draw-string-refusals : Refusals s rec (6 ∷ 15 ∷ 19 ∷ 11 ∷ (ofPlacing ++ ofDrawing)) (saidText (drawString s rec text len lay))
     unfolding drawString ready
     draw-string-refusals =
         guarded-refusals s rec saidReady Ready.Refused (λ r. refl) (okPlace (placeAt (lay .start) (lay .stride) (lay .scale)))
-        (cond (leb (length text) 65535) (readyText rec lay (decoded text)) (Ready.Refused (refusal 19 0))) refl
-        (λ fits. whichever saidReady (leb (length text) 65535) (decoded-refusals (decoded text) refl) (has-number refl))
+        (readyText rec lay (checkedText text)) refl (λ fits. checked-refusals (checkedText text) refl)
 
 pub step-at-refusals : (s : List ℕ) (i : ℕ) → NumberedBy (19 ∷ []) (saidStep (stepAt s i))
 step-at-refusals s i = by (stepAt s i) refl where

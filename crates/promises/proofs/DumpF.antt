@@ -20,7 +20,7 @@ use Rattle.bitmaps.specs.Units.{bitAt, byteOf, packed, rowByte}
 use Rattle.bitmaps.specs.Rows.{bytesPast}
 use Rattle.bitmaps.specs.Picture.{offsetOf, rowsShort}
 use Rattle.place.specs.Bounds.{boundsHold}
-use Rattle.place.specs.Info.{placeable, infoOf}
+use Rattle.place.specs.Info.{placeable, infoOf, prepared}
 use Rattle.vet.specs.First.{firstFault}
 use Rattle.vet.specs.Vet.{propFault, boxFault, codeFault}
 use Rattle.hexline.specs.Lines.{linesOf, digitOf, allDigits, goodLine, bytesFrom, hexRead, pairs, allPairs, hexBytes}
@@ -36,7 +36,7 @@ in-range : readInRange (hexBytes (typedLines linesF)) (hexRead (typedLines lines
 unfolding linesF framesF typed typedLines hexBytes linesOf digitOf goodLine bytesFrom hexRead digits numAt signed
     less128 propertiesTable propertiesAt acceleratorsTable acceleratorsAt wideAt narrowAt metricsTable metricsAt
     bitmapsTable bitmapsAt codesTable codesAt namesTable namesAt finished tableAt entryOf entryAt entriesFrom loaded
-    slotOf glyphOf metricsOf zeroFrom stringAt nameOf propOf some byteOf bytesPast rowsShort boundsHold placeable infoOf
+    slotOf glyphOf metricsOf zeroFrom stringAt nameOf propOf some byteOf bytesPast rowsShort boundsHold placeable infoOf prepared
     firstFault codeFault hexDigit field frame frameOf framesFrom offsetOf propFault boxFault
     allDigits pairs allPairs hexAll bitAt packed rowByte rowFrom rowsFrom codeRange
 in-range = refl

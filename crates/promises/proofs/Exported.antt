@@ -45,11 +45,11 @@ use Rattle.thalluskin.specs.Reading.{fontAnswer, propAnswer, propertyAnswer, gl
 use Rattle.thalluskin.specs.Placing.{extentAnswer, infoAnswer}
 use Rattle.thalluskin.specs.Drawing.{rowsAnswer, charAnswer, unpackAnswer}
 use Rattle.thalluskin.specs.Texts.{layout, textAnswer, stepAnswer}
+use Rattle.load.proofs.Refusals.{load-pcf-refusals}
+use Rattle.vet.proofs.Refusals.{vet-refusals}
 use Rattle.promises.specs.Refusals.{Answers}
 use Rattle.promises.specs.Exported.{readOff, saysFont, saysProperty, saysGlyph, saysName, saysMetrics, saysExtent, saysInfo, saysRows, saysChar, saysUnpack, saysText, saysStep}
 use Rattle.promises.proofs.Refusals.{
-  load-pcf-refusals,
-  vet-refusals,
   prop-at-refusals,
   get-glyph-refusals,
   get-name-refusals,

@@ -10,6 +10,7 @@ mod DrawingRefusals
 mod Exported
 mod Vetting
 mod VettingRefuses
+mod VettingSaid
 mod Coloured
 mod ByRule
 mod Drawing

@@ -24,7 +24,7 @@ use Rattle.glyphs.specs.Glyph.{glyphDrawn}
 use Rattle.glyphs.specs.Char.{charReady, drawChar}
 use Rattle.utf8.specs.Table.{find, leadOf, table as leads}
 use Rattle.utf8.specs.Step.{longer, stepAt}
-use Rattle.utf8.specs.Decode.{decodeFrom, decoded}
+use Rattle.utf8.specs.Decode.{decodeFrom, decoded, checkedText}
 use Rattle.text.specs.Walk.{wrapped, placed, placedDrawn}
 use Rattle.text.specs.Text.{textFrom, inText, ready, drawString}
 use Rattle.hexline.specs.Lines.{linesOf, digitOf, pairs, allPairs, hexBytes}
@@ -39,5 +39,5 @@ unfolding table seen asked F linesF typed typedLines hexBytes linesOf digitOf di
     bitmapsAt codesTable codesAt namesTable namesAt propsFit metricsFit bitmapsFit codesFit namesFit recordFits finished
     tableAt entryOf entryAt entriesFrom loaded slotOf glyphOf getGlyph metricsOf getMetrics some painted bitAt byteOf bytesPast blockDot rowDot
     someDot rowsShort glyphBit shownAt boundsHold placeable infoOf prepared glyphDrawn charReady drawChar find leadOf leads longer
-    stepAt decodeFrom decoded placed textFrom inText ready drawString offsetOf wrapped placedDrawn pairs allPairs
+    stepAt decodeFrom decoded checkedText placed textFrom inText ready drawString offsetOf wrapped placedDrawn pairs allPairs
 proved-cases = (refl, (refl, (refl, (refl, (refl, (refl, (refl, (refl, (refl, (refl, tt))))))))))

@@ -18,9 +18,9 @@ use Rattle.bitmaps.proofs.Painting.{length-painted, getD-painted}
 use Rattle.vet.specs.Vet.{vetted}
 use Rattle.vet.specs.declared.Vetted.{Vetted}
 use Rattle.vet.proofs.Verdict.{passes-when}
-use Rattle.utf8.specs.Decode.{Char, chars, refused, decoded, charsOf}
-use Rattle.utf8.proofs.Accepts.{accepts}
-use Rattle.utf8.proofs.Walk.{checked-whole}
+use Rattle.utf8.specs.Decode.{decoded, charsOf, checkedText}
+use Rattle.utf8.specs.declared.Checked.{Checked}
+use Rattle.utf8.proofs.Accepts.{well-whole}
 use Rattle.text.specs.Walk.{origin}
 use Rattle.text.specs.Text.{textFrom, inText, ready, drawString, stringLeaves, saidText}
 use Rattle.text.specs.declared.Layout.{Layout}
@@ -128,8 +128,7 @@ module _ (s : List ℕ) (rec : Record) (text : List ℕ) (lay : Layout) (colour 
 
     -- ---- a text that can be read, within the limits
 
-    module _ (cs : List Char) (decodes : decoded text ≡ chars cs) (short : length text ≤ 65535)
-        (start-high : lay .start ≤ 2147483647)
+    module _ (whole : checkedText text ≡ Checked.Whole) (start-high : lay .start ≤ 2147483647)
         (stride-low : 1 ≤ lay .stride)
         (stride-high : lay .stride ≤ 65535)
         (scale-low : 1 ≤ lay .scale)
@@ -143,13 +142,12 @@ module _ (s : List ℕ) (rec : Record) (text : List ℕ) (lay : Layout) (colour 
             rw (
               loaded-serves s rec loads,
               ok-place (lay .start) (lay .stride) (lay .scale) start-high stride-low stride-high scale-low scale-high,
-              le-leb (length text) 65535 short,
-              decodes,
+              whole,
               sound .bounds,
             ) refl
 
-        pub shown-when-decoded : Shown s rec text lay colour old
-        shown-when-decoded =
+        pub shown-when-read : Shown s rec text lay colour old
+        shown-when-read =
             let a = drawString s rec text len lay in
             let told = subst ToldWhole (sym answer-is) (told-text s rec lay len passed (charsOf (decoded text)) origin 0) in
             record {
@@ -167,6 +165,5 @@ module _ (s : List ℕ) (rec : Record) (text : List ℕ) (lay : Layout) (colour 
 
 pub text-shown : (s : List ℕ) (rec : Record) (text : List ℕ) (lay : Layout) → Given s rec text lay → (colour : ℕ) (old : List ℕ) → Shown s rec text lay colour old
 text-shown s rec text lay given colour old =
-    shown-when-decoded s rec text lay colour old (given .passed) (charsOf (decoded text))
-    (checked-whole text (accepts text .1 (given .well-formed))) (given .short)
+    shown-when-read s rec text lay colour old (given .passed) (well-whole text (given .short) (given .well-formed))
     (given .start-high) (given .stride-low) (given .stride-high) (given .scale-low) (given .scale-high)

@@ -2,7 +2,7 @@
 -- arguments are equal.
 use mathlib.Core.Path.{refl, sym, _∙_}
 use denote.Ref.{now}
-use Rattle.promises.specs.Unique.{Fixes, FixesBytes, FixesLent}
+use Rattle.promises.specs.Unique.{Fixes, FixesPart, FixesLent}
 use Rattle.reads.proofs.byte_at.Kinds as byte-at-kinds
 use Rattle.reads.proofs.byte_at.Reads as byte-at-reads
 use Rattle.reads.proofs.u16_at.Kinds as u16-at-kinds
@@ -77,8 +77,6 @@ use Rattle.bitmaps.proofs.held_byte.Kinds as held-byte-kinds
 use Rattle.bitmaps.proofs.held_byte.Reads as held-byte-reads
 use Rattle.bitmaps.proofs.order_of.Kinds as order-of-kinds
 use Rattle.bitmaps.proofs.order_of.Reads as order-of-reads
-use Rattle.bitmaps.proofs.row_end.Kinds as row-end-kinds
-use Rattle.bitmaps.proofs.row_end.Reads as row-end-reads
 use Rattle.bitmaps.proofs.shown.Kinds as shown-kinds
 use Rattle.bitmaps.proofs.shown.Reads as shown-reads
 use Rattle.bitmaps.proofs.bit_of.Kinds as bit-of-kinds
@@ -97,8 +95,6 @@ use Rattle.bitmaps.proofs.bytes_past.Kinds as bytes-past-kinds
 use Rattle.bitmaps.proofs.bytes_past.Reads as bytes-past-reads
 use Rattle.bitmaps.proofs.rows_short.Kinds as rows-short-kinds
 use Rattle.bitmaps.proofs.rows_short.Reads as rows-short-reads
-use Rattle.hexline.proofs.hex_read.Kinds as hex-read-kinds
-use Rattle.hexline.proofs.hex_read.Reads as hex-read-reads
 use Rattle.lookup.proofs.code_range.Kinds as code-range-kinds
 use Rattle.lookup.proofs.code_range.Reads as code-range-reads
 use Rattle.names.proofs.name_of.Kinds as name-of-kinds
@@ -283,9 +279,6 @@ held-byte-unique κs a r₁ r₂ x₁ x₂ p q = p ∙ sym q
 pub order-of-unique : Fixes 0 order-of-kinds.ps order-of-kinds.r order-of-reads.Post
 order-of-unique κs a r₁ r₂ x₁ x₂ p q = p ∙ sym q
 
-pub row-end-unique : Fixes 0 row-end-kinds.ps row-end-kinds.r row-end-reads.Post
-row-end-unique κs a r₁ r₂ x₁ x₂ p q = p ∙ sym q
-
 pub shown-unique : Fixes 0 shown-kinds.ps shown-kinds.r shown-reads.Post
 shown-unique κs a r₁ r₂ x₁ x₂ p q = p ∙ sym q
 
@@ -313,9 +306,6 @@ bytes-past-unique κs a r₁ r₂ x₁ x₂ p q = p ∙ sym q
 pub rows-short-unique : Fixes 1 rows-short-kinds.ps rows-short-kinds.r rows-short-reads.Post
 rows-short-unique κs a r₁ r₂ x₁ x₂ p q = p ∙ sym q
 
-pub hex-read-unique : Fixes 1 hex-read-kinds.ps hex-read-kinds.r hex-read-reads.Post
-hex-read-unique κs a r₁ r₂ x₁ x₂ p q = p ∙ sym q
-
 pub code-range-unique : Fixes 0 code-range-kinds.ps code-range-kinds.r code-range-reads.Post
 code-range-unique κs a r₁ r₂ x₁ x₂ p q = p ∙ sym q
 
@@ -340,11 +330,12 @@ vet-unique κs a r₁ r₂ x₁ x₂ p q = p ∙ sym q
 pub print-dump-unique : Fixes 1 print-dump-kinds.ps print-dump-kinds.r print-dump-reads.Post
 print-dump-unique κs a r₁ r₂ x₁ x₂ p q = p ∙ sym q
 
-pub part-of-unique : FixesBytes 1 part-of-kinds.ps part-of-kinds.r part-of-reads.Post (λ κs r. now r)
-part-of-unique κs a r₁ r₂ x₁ x₂ p q = p ∙ sym q
+-- the returned part's bytes and its place
+pub part-of-unique : FixesPart 1 part-of-kinds.ps part-of-kinds.r part-of-reads.Post (λ κs r. r)
+part-of-unique κs a r₁ r₂ x₁ x₂ p q = (p .0 ∙ sym (q .0), p .1 ∙ sym (q .1))
 
-pub name-bytes-unique : FixesBytes 1 name-bytes-kinds.ps name-bytes-kinds.r name-bytes-reads.Post (λ κs r. now r)
-name-bytes-unique κs a r₁ r₂ x₁ x₂ p q = p ∙ sym q
+pub name-bytes-unique : FixesPart 1 name-bytes-kinds.ps name-bytes-kinds.r name-bytes-reads.Post (λ κs r. r)
+name-bytes-unique κs a r₁ r₂ x₁ x₂ p q = (p .0 ∙ sym (q .0), p .1 ∙ sym (q .1))
 
 -- of a call that is lent a buffer: the answer is one value, and the buffer is left as the answer says
 

@@ -25,7 +25,7 @@ use Rattle.font.proofs.Font.dimensions as view-dimensions
 use Rattle.font.proofs.Font.prep_char as view-prep-char
 use Rattle.font.proofs.Font.draw_char as view-draw-char
 use Rattle.font.proofs.Font.draw_string as view-draw-string
-use Rattle.promises.specs.Unique.{Fixes, FixesLent, FixesSaid}
+use Rattle.promises.specs.Unique.{Fixes, FixesLent, SamePart, FixesSaid}
 
 pub record-of-unique : Fixes 1 record-of-kinds.ps record-of-kinds.r record-of-reads.Post
 record-of-unique κs a r₁ r₂ x₁ x₂ p q = p ∙ sym q
@@ -69,8 +69,8 @@ module _ {M : Type 1} (𝓤 : URA M) (H : Heap 𝓤) (A : Atoms 𝓤) (mem : Mem
   pub view-prep-char-unique : FixesSaid 𝓤 view-prep-char.ended (view-prep-char.clauses 𝓤 H A mem run) (λ κs r₁ r₂ x₁ x₂. r₁ ≡ r₂)
   view-prep-char-unique κs a g₁ g₂ r₁ r₂ x₁ x₂ = from-facts 𝓤 (λ p q. p ∙ sym q)
 
-  pub view-name-bytes-unique : FixesSaid 𝓤 view-name-bytes.ended (view-name-bytes.clauses 𝓤 H A mem run) (λ κs r₁ r₂ x₁ x₂. now r₁ ≡ now r₂)
-  view-name-bytes-unique κs a g₁ g₂ r₁ r₂ x₁ x₂ = from-facts 𝓤 (λ p q. p ∙ sym q)
+  pub view-name-bytes-unique : FixesSaid 𝓤 view-name-bytes.ended (view-name-bytes.clauses 𝓤 H A mem run) (λ κs r₁ r₂ x₁ x₂. SamePart r₁ r₂)
+  view-name-bytes-unique κs a g₁ g₂ r₁ r₂ x₁ x₂ = from-pairs 𝓤 (λ p l q m. (p ∙ sym q, l ∙ sym m))
 
   pub view-draw-char-unique : FixesSaid 𝓤 view-draw-char.ended (view-draw-char.clauses 𝓤 H A mem run) (λ κs r₁ r₂ x₁ x₂. (r₁ ≡ r₂) × (now (x₁ .1 .1 .0) ≡ now (x₂ .1 .1 .0)))
   view-draw-char-unique κs a g₁ g₂ r₁ r₂ x₁ x₂ =

@@ -7,5 +7,6 @@ pub mod Refusals
 pub mod Exported
 pub mod Passing
 pub mod Refusing
+pub mod VettingSaid
 pub mod Drawing
 pub mod Texts

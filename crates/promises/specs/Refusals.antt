@@ -10,18 +10,16 @@ use Rattle.tables.specs.Fits.{recordFits}
 use Rattle.tables.specs.declared.Record.{Record}
 
 -- the lists that several calls have
-abbrev pub ofLoading : List ℕ
-ofLoading = 1 ∷ 2 ∷ 3 ∷ 4 ∷ 5 ∷ 6 ∷ 7 ∷ 8 ∷ []
-
-abbrev pub ofVetting : List ℕ
-ofVetting = ofLoading ++ (13 ∷ 11 ∷ 18 ∷ 10 ∷ 11 ∷ 12 ∷ 14 ∷ 17 ∷ 18 ∷ [])
-
 -- of a glyph placed, and drawn
 abbrev pub ofPlacing : List ℕ
 ofPlacing = 10 ∷ 11 ∷ []
 
 abbrev pub ofDrawing : List ℕ
 ofDrawing = 13 ∷ 14 ∷ 16 ∷ []
+
+-- of a frame of the dump
+abbrev pub ofFraming : List ℕ
+ofFraming = 9 ∷ 10 ∷ 11 ∷ 12 ∷ 13 ∷ 14 ∷ 17 ∷ 18 ∷ 15 ∷ []
 
 -- What a call with a record and the bytes `s` answers: values or one of these numbers. And 6 stands for "a record with a region outside
 -- the bytes given, a code minimum above its maximum, a code region without room for all its entries, or a row pad other than 1, 2, 4, 8",

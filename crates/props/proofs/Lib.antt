@@ -1,1 +1,2 @@
 pub mod RecordInside
+pub mod Refusals

@@ -2,12 +2,12 @@
 use mathlib.Core.Path.{_≡_, refl, sym, ap, _∙_}
 use mathlib.Core.Bool.{Bool, true, false, cond, _&&_, _||_}
 use mathlib.Core.List.{List, [], _∷_}
-use Prim.Native.Nat.{ℕ}
+use Prim.Native.Nat.{ℕ, _≤_}
 use native.Mathlib.Omega.{arith}
 use lib.ListN.{length}
-use lib.Dec.{eqb}
+use lib.Dec.{eqb, leb}
 use lib.IntN.{ℤ}
-use borrow.Author.Tests.{eqb-true}
+use borrow.Author.Tests.{eqb-true, leb-true, le-leb}
 use Rattle.reads.specs.Said.{Said, says, refuses, elem, OneOf, NumberedBy}
 use Rattle.reads.specs.declared.Refusal.{Refusal}
 use Rattle.reads.proofs.Tests.{never, both, split}
@@ -58,6 +58,20 @@ module _ {ns : List ℕ} {a : Said} where
     by : (n : ℕ) (vs : List ℤ) → OneOf ns n vs → elem n (0 ∷ ns) ≡ true
     by n [] h = or-right (eqb n 0) (elem n ns) h
     by n (v ∷ vs) h = rw h refl
+
+-- no number of a list is greater than this one
+abbrev pub none-above : ℕ → List ℕ → Bool
+none-above most [] = true
+none-above most (n ∷ ns) = leb n most && none-above most ns
+
+elem-at-most : (most n : ℕ) (ns : List ℕ) → none-above most ns ≡ true → elem n ns ≡ true → n ≤ most
+elem-at-most most n [] w e = never e
+elem-at-most most n (m ∷ ns) w e =
+    let (here, rest) = both (leb m most) (none-above most ns) w in
+    split (eqb n m) (λ t. rw (eqb-true n m t) (leb-true m most here)) (λ t. elem-at-most most n ns rest (rw t at e))
+
+pub at-most : {ns : List ℕ} {a : Said} (most : ℕ) → none-above most ns ≡ true → NumberedBy ns a → a .number ≤ most
+at-most {ns} {a} most w h = elem-at-most most (a .number) (0 ∷ ns) (rw (le-leb 0 most (omega arith)) w) (listed h)
 
 -- a number of a list is none that does not stand in it
 pub not-in : (ns : List ℕ) (m n : ℕ) → elem n ns ≡ false → elem m ns ≡ true → m ≡ n → ⊥

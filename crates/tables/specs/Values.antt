@@ -1,7 +1,7 @@
 -- The record's numbers as a list, in the order of its fields: the values of an answer that holds a record or a part of one.
 use mathlib.Core.List.{List, [], _∷_, _++_}
 use lib.IntN.{ℤ, pos}
-use Rattle.reads.specs.Said.{bit}
+use Rattle.reads.specs.Said.{Said, refusal, says, refuses, bit}
 use Rattle.tables.specs.declared.PropertiesData.{PropertiesData}
 use Rattle.tables.specs.declared.MetricsUnpacked.{MetricsUnpacked}
 use Rattle.tables.specs.declared.AcceleratorUnpacked.{AcceleratorUnpacked}
@@ -10,6 +10,7 @@ use Rattle.tables.specs.declared.BitmapData.{BitmapData}
 use Rattle.tables.specs.declared.EncodingData.{EncodingData}
 use Rattle.tables.specs.declared.GlyphNameData.{GlyphNameData}
 use Rattle.tables.specs.declared.Record.{Record}
+use Rattle.tables.specs.declared.TableRead.{TableRead}
 
 abbrev pub metricsValues : MetricsUnpacked → List ℤ
 metricsValues m = m .left ∷ m .right ∷ m .width ∷ m .ascent ∷ m .descent ∷ pos (m .attributes) ∷ []
@@ -43,3 +44,15 @@ recordValues r =
     propsValues (r .props)
     ++ (acceleratorValues (r .accel)
     ++ (metricsDataValues (r .metrics) ++ (bitmapsValues (r .bitmaps) ++ (codesValues (r .codes) ++ namesValues (r .names)))))
+
+-- what was read of a table: its type, 0 for one that is not read, and the table's numbers; the place of a refusal is the entry's, which
+-- loading adds
+abbrev pub saidTable : TableRead → Said
+saidTable (TableRead.Properties p) = says (pos 1 ∷ propsValues p)
+saidTable (TableRead.Accelerators a) = says (pos 2 ∷ acceleratorValues a)
+saidTable (TableRead.Metrics m) = says (pos 4 ∷ metricsDataValues m)
+saidTable (TableRead.Bitmaps b) = says (pos 8 ∷ bitmapsValues b)
+saidTable (TableRead.Codes c) = says (pos 32 ∷ codesValues c)
+saidTable (TableRead.Names n) = says (pos 128 ∷ namesValues n)
+saidTable TableRead.Other = says (pos 0 ∷ [])
+saidTable (TableRead.Refused n) = refuses (refusal n 0)

@@ -4,12 +4,10 @@ use mathlib.Core.Path.{_≡_, refl, sym, ap, _∙_}
 use mathlib.Core.Bool.{Bool, true, false, cond}
 use mathlib.Core.List.{List}
 use native.Mathlib.Omega.{arith}
-use lib.Dec.{leb}
 use mir.Syntax.{w64}
 use mir.Val.{Fits}
 use lib.IntN.{natAbs}
 use lib.ListN.{length}
-use borrow.Author.Tests.{leb-true, le-leb, lt-leb}
 use Rattle.reads.specs.Said.{refusal}
 use Rattle.reads.specs.declared.Refusal.{Refusal}
 use Rattle.reads.proofs.Tests.{never}
@@ -28,9 +26,10 @@ use Rattle.place.specs.declared.Extent.{Extent}
 use Rattle.place.specs.declared.Sized.{Sized}
 use Rattle.place.proofs.Held.{held}
 use Rattle.place.proofs.Whole.{in-range-small}
-use Rattle.utf8.specs.Decode.{Decoded, chars, refused, decoded, charsOf, checked}
+use Rattle.utf8.specs.Decode.{decoded, charsOf, checkedText}
 use Rattle.utf8.specs.declared.Checked.{Checked}
-use Rattle.utf8.proofs.Walk.{checked-whole, checked-refused}
+use Rattle.utf8.proofs.Rest.{whole-walked}
+use Rattle.utf8.proofs.Walk.{checked-whole}
 use Rattle.text.specs.Walk.{origin, lineHeight}
 use Rattle.text.specs.Text.{textFrom, inText, readyText, ready, drawString}
 use Rattle.text.specs.Within.{Settled, Readable}
@@ -50,23 +49,22 @@ past true x n line e = (refl, e)
 past false x n line e = absurd (not-line n line e)
 
 module _ (rec : Record) (lay : Layout) (line : ℕ) where
-  past-text : (d : Decoded) → readyText rec lay d ≡ Ready.Line line
-      → (d ≡ chars (charsOf d)) × (boundsHold (boundsOf rec) ≡ true) × (line ≡ lineHeight rec (lay .scale))
-  past-text (chars cs) e =
+  past-text : (a : Checked) → readyText rec lay a ≡ Ready.Line line
+      → (a ≡ Checked.Whole) × (boundsHold (boundsOf rec) ≡ true) × (line ≡ lineHeight rec (lay .scale))
+  past-text Checked.Whole e =
       let (b, l) = past (boundsHold (boundsOf rec)) (Ready.Line (lineHeight rec (lay .scale))) 11 line e in
       (refl, b, let q : lineHeight rec (lay .scale) ≡ line = cc in sym q)
-  past-text (refused r) e = let z : _≡_ {A = ℕ} 0 1 = cc in absurd (omega arith)
+  past-text (Checked.Refused r) e = let z : _≡_ {A = ℕ} 0 1 = cc in absurd (omega arith)
 
   past-all : (s text : List ℕ) → ready s rec text lay ≡ Ready.Line line → Settled rec lay line × Readable text
   unfolding ready
   past-all s text e =
       let place = okPlace (placeAt (lay .start) (lay .stride) (lay .scale)) in
-      let short = leb (length text) 65535 in
-      let after-short = cond short (readyText rec lay (decoded text)) (Ready.Refused (refusal 19 0)) in
-      let (fits, e₁) = past (recordFits (length s) rec) (cond place after-short (Ready.Refused (refusal 15 0))) 6 line e in
-      let (ok, e₂) = past place after-short 15 line e₁ in
-      let (few, e₃) = past short (readyText rec lay (decoded text)) 19 line e₂ in
-      let (is-text, holds, is-line) = past-text (decoded text) e₃ in
+      let after = readyText rec lay (checkedText text) in
+      let (fits, e₁) = past (recordFits (length s) rec) (cond place after (Ready.Refused (refusal 15 0))) 6 line e in
+      let (ok, e₂) = past place after 15 line e₁ in
+      let (is-text, holds, is-line) = past-text (checkedText text) e₂ in
+      let (few, walked) = whole-walked text is-text in
       let limits = place-limits (lay .start) (lay .stride) (lay .scale) ok in
       let high = in-range-small (heightOf (boundsOf rec)) (held (boundsOf rec) holds .1) .1 in (
         record {
@@ -76,7 +74,7 @@ module _ (rec : Record) (lay : Layout) (line : ℕ) where
           line-is = is-line;
           line-high = omega (arith, is-line, within (lay .scale) 64 (natAbs (heightOf (boundsOf rec))) 32767 (limits .4) high);
         },
-        record { is-chars = is-text; is-short = leb-true (length text) 65535 few },
+        record { is-chars = checked-whole text walked; is-short = few },
       )
 
   module _ (s text : List ℕ) (r : Ready) (r-is : r ≡ ready s rec text lay) (e : r ≡ Ready.Line line) where
@@ -118,7 +116,7 @@ line-fits rec lay d fits place permit size place-is permit-is given size-is e =
 module _ (s : List ℕ) (rec : Record) (text : List ℕ) (lay : Layout) (place : Bool) (permit : Permit)
     (place-is : place ≡ okPlace (placeAt (lay .start) (lay .stride) (lay .scale))) (permit-is : permit ≡ guard s rec place) where
   after : Ready
-  after = cond (leb (length text) 65535) (readyText rec lay (decoded text)) (Ready.Refused (refusal 19 0))
+  after = readyText rec lay (checkedText text)
 
   pub ready-refused : (r : Refusal) → permit ≡ Permit.Refused r → Ready.Refused r ≡ ready s rec text lay
   unfolding ready after
@@ -129,26 +127,22 @@ module _ (s : List ℕ) (rec : Record) (text : List ℕ) (lay : Layout) (place :
     unfolding ready after
     ready-after = rw (← place-is) (sym (guarded-answers s rec place permit permit-is Ready.Refused after given))
 
-    pub ready-19 : 65535 < length text → Ready.Refused (refusal 19 0) ≡ ready s rec text lay
-    unfolding after
-    ready-19 h = rw (lt-leb (length text) 65535 h) at ready-after
-
-    module _ (short : length text ≤ 65535) (whole : Checked) (whole-is : whole ≡ checked (decoded text)) where
-      ready-text : readyText rec lay (decoded text) ≡ ready s rec text lay
+    module _ (whole : Checked) (whole-is : whole ≡ checkedText text) where
+      ready-text : readyText rec lay whole ≡ ready s rec text lay
       unfolding after
-      ready-text = rw (le-leb (length text) 65535 short) at ready-after
+      ready-text = ap (readyText rec lay) whole-is ∙ ready-after
 
-      pub ready-ill : (r : Refusal) → whole ≡ Checked.Refused r → Ready.Refused r ≡ ready s rec text lay
-      ready-ill r e = ap (readyText rec lay) (sym (checked-refused text r (sym whole-is ∙ e))) ∙ ready-text
+      pub ready-19 : (r : Refusal) → whole ≡ Checked.Refused r → Ready.Refused r ≡ ready s rec text lay
+      ready-19 r e = rw e at ready-text
 
-      -- of a text that is UTF-8
+      -- of a text that can be drawn
       module _ (size : Sized) (e : whole ≡ Checked.Whole) (size-is : size ≡ boundsSized (boundsOf rec)) where
         ready-bounds : bySize (lay .scale) size ≡ ready s rec text lay
         unfolding boundsSized
         ready-bounds =
             ap (bySize (lay .scale)) size-is
             ∙ by-size (boundsHold (boundsOf rec)) (boundsOf rec) (lay .scale)
-            ∙ ap (readyText rec lay) (sym (checked-whole text (sym whole-is ∙ e)))
+            ∙ ap (readyText rec lay) (sym e)
             ∙ ready-text
 
         pub ready-sized : (d : Extent) (line : ℕ) → size ≡ Sized.Dimensions d → line ≡ lay .scale * d .height → Ready.Line line ≡ ready s rec text lay

@@ -4,3 +4,4 @@ pub mod Passes
 pub mod Turns
 pub mod ShownGlyph
 pub mod BeforeFirst
+pub mod NoWrap

@@ -4,7 +4,6 @@ use Prim.Native.Nat.{ℕ, _+_}
 use mathlib.Core.Bool.{Bool, false, cond, _||_}
 use mathlib.Core.List.{List, [], _∷_}
 use lib.ListN.{length}
-use lib.Dec.{leb}
 use lib.IntN.{pos}
 use Rattle.reads.specs.Said.{Said, refusal, says, refuses}
 use Rattle.tables.specs.Fits.{guarded}
@@ -14,7 +13,8 @@ use Rattle.bitmaps.specs.Place.{placeAt}
 use Rattle.bitmaps.specs.Limits.{okPlace}
 use Rattle.bitmaps.specs.declared.Drawn.{Drawn}
 use Rattle.place.specs.Bounds.{boundsHold, boundsOf}
-use Rattle.utf8.specs.Decode.{Char, Decoded, chars, refused, decoded, charsOf}
+use Rattle.utf8.specs.Decode.{Char, decoded, charsOf, checkedText}
+use Rattle.utf8.specs.declared.Checked.{Checked}
 use Rattle.text.specs.Walk.{origin, lineHeight, placed, placedDrawn, penAfter, inPlaced}
 use Rattle.text.specs.declared.Layout.{Layout}
 use Rattle.text.specs.declared.Pen.{Pen}
@@ -42,16 +42,15 @@ inText s rec lay len (c ∷ cs) pen k =
     inPlaced s rec lay len p k || inText s rec lay len cs (penAfter lay p pen) k
 
 -- 19, then 11 for the bounds; else the line height
-abbrev pub readyText : Record → Layout → Decoded → Ready
-readyText rec lay (chars cs) =
+abbrev pub readyText : Record → Layout → Checked → Ready
+readyText rec lay Checked.Whole =
     cond (boundsHold (boundsOf rec)) (Ready.Line (lineHeight rec (lay .scale))) (Ready.Refused (refusal 11 0))
-readyText rec lay (refused r) = Ready.Refused r
+readyText rec lay (Checked.Refused r) = Ready.Refused r
 
 -- what is tested before the first character: 6, 15, 19 ("text too long or not UTF-8"), 11
 unfoldable pub ready : List ℕ → Record → List ℕ → Layout → Ready
 ready s rec text lay =
-    guarded Ready.Refused s rec (okPlace (placeAt (lay .start) (lay .stride) (lay .scale)))
-    (cond (leb (length text) 65535) (readyText rec lay (decoded text)) (Ready.Refused (refusal 19 0)))
+    guarded Ready.Refused s rec (okPlace (placeAt (lay .start) (lay .stride) (lay .scale))) (readyText rec lay (checkedText text))
 
 abbrev pub whenReady : Ready → TextDrawn → TextDrawn
 whenReady (Ready.Line line) answer = answer

@@ -61,7 +61,7 @@ placeInfo rec lay pen (Prepared.Refused r) = Placed.Refused (r .number)
 
 -- "a code without glyph is skipped"
 abbrev pub placeFound : List ℕ → Record → Layout → Pen → Found → Placed
-placeFound s rec lay pen (Found.Glyph g) = placeInfo rec lay pen (infoOf s rec g)
+placeFound s rec lay pen (Found.Glyph g) = placeInfo rec lay pen (infoOf s (rec .metrics) (boundsOf rec) g)
 placeFound s rec lay pen (Found.Refused r) = Placed.Skip pen
 
 -- what a character does with the pen here

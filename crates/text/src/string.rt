@@ -7,7 +7,6 @@ use crate::pass::text_pass;
 use outcome::ok_place;
 use place::Sized;
 use place::bounds_sized;
-use reads::Refusal;
 use tables::Permit;
 use tables::Record;
 use tables::guard;
@@ -29,12 +28,6 @@ fn ready_for(bytes: &[u8], rec: Record, text: &[u8], lay: Layout) -> Ready
     );
     match permit {
         Permit::Given => {
-            if 65535 < text.len() {
-                return Ready::Refused(Refusal {
-                    number: 19,
-                    place: 0,
-                });
-            }
             let checked = check(text);
             match checked {
                 Checked::Whole => {

@@ -72,12 +72,5 @@ whole : (d : Decoded) → checked d ≡ Checked.Whole → d ≡ chars (charsOf d
 whole (chars cs) e = refl
 whole (refused r) e = let z : _≡_ {A = ℕ} 0 1 = cc in absurd (omega arith)
 
-not-whole : (d : Decoded) (r : Refusal) → checked d ≡ Checked.Refused r → d ≡ refused r
-not-whole (chars cs) r e = let z : _≡_ {A = ℕ} 0 1 = cc in absurd (omega arith)
-not-whole (refused q) r e = let z : q ≡ r = cc in ap refused z
-
 pub checked-whole : (text : List ℕ) → checked (decoded text) ≡ Checked.Whole → decoded text ≡ chars (charsOf (decoded text))
 checked-whole text e = whole (decoded text) e
-
-pub checked-refused : (text : List ℕ) (r : Refusal) → checked (decoded text) ≡ Checked.Refused r → decoded text ≡ refused r
-checked-refused text r e = not-whole (decoded text) r e

@@ -1,8 +1,10 @@
 -- A text's characters in order. From document 01: "for 19, the first byte at which no UTF-8 character as Unicode defines it starts".
 use Prim.Native.Nat.{ℕ, zero, suc}
+use mathlib.Core.Bool.{cond}
 use mathlib.Core.List.{List, [], _∷_}
 use lib.ListN.{length}
-use Rattle.reads.specs.Said.{Said, says, refuses}
+use lib.Dec.{leb}
+use Rattle.reads.specs.Said.{Said, refusal, says, refuses}
 use Rattle.reads.specs.declared.Refusal.{Refusal}
 use Rattle.utf8.specs.Step.{stepAt}
 use Rattle.utf8.specs.declared.Checked.{Checked}
@@ -45,6 +47,10 @@ charsOf (refused r) = []
 abbrev pub checked : Decoded → Checked
 checked (chars cs) = Checked.Whole
 checked (refused r) = Checked.Refused r
+
+-- `check`: 19 for a "text too long or not UTF-8", whose place is "0 if too long"; "text at most 65,535 bytes"
+unfoldable pub checkedText : List ℕ → Checked
+checkedText s = cond (leb (length s) 65535) (checked (decoded s)) (Checked.Refused (refusal 19 0))
 
 abbrev pub saidChecked : Checked → Said
 saidChecked Checked.Whole = says []

@@ -22,7 +22,7 @@ pub struct Lead {
     pub high: u8,
 }
 
-// Whether a text is UTF-8; if not, 19 with the first byte of the first ill-formed sequence.
+// Whether a text is short enough and UTF-8; if not, 19 with its place.
 pub enum Checked {
     Whole,
     Refused(Refusal),

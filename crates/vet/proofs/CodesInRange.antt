@@ -22,12 +22,12 @@ module _ (s : List ℕ) (rec : Record) where
   no-glyph-no-fault code r e = rw e refl
 
   pub codes-in-range :
-      firstFault (codeFault s rec) 65536 0 ≡ firstFault (codeFault s rec) (codeRange (rec .codes) .end - codeRange (rec .codes) .low) (codeRange (rec .codes) .low)
+      firstFault (codeFault s rec) 65536 0 ≡ firstFault (codeFault s rec) (codeRange (rec .codes) .end .0 - codeRange (rec .codes) .low .0) (codeRange (rec .codes) .low .0)
   codes-in-range =
-      by-range (codeFault s rec) 65536 (codeRange (rec .codes) .low) (codeRange (rec .codes) .end) (range-end (rec .codes))
+      by-range (codeFault s rec) 65536 (codeRange (rec .codes) .low .0) (codeRange (rec .codes) .end .0) (range-end (rec .codes))
       (λ code below. no-glyph-no-fault code (refusal 9 0) (outside-none (rec .codes) code s (inl below)))
       (λ code above. no-glyph-no-fault code (refusal 9 0) (outside-none (rec .codes) code s (inr above)))
 
   pub codes-by-range : (range : CodeRange) → range ≡ codeRange (rec .codes)
-      → firstFault (codeFault s rec) (range .end - range .low) (range .low) ≡ firstFault (codeFault s rec) 65536 0
+      → firstFault (codeFault s rec) (range .end .0 - range .low .0) (range .low .0) ≡ firstFault (codeFault s rec) 65536 0
   codes-by-range range e = rw e (sym codes-in-range)

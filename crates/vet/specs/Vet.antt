@@ -51,7 +51,7 @@ glyphFault s rec (Prepared.Refused r) = r .number
 
 -- only codes that have a glyph are tested
 abbrev pub foundFault : List ℕ → Record → Found → ℕ
-foundFault s rec (Found.Glyph g) = glyphFault s rec (infoOf s rec g)
+foundFault s rec (Found.Glyph g) = glyphFault s rec (infoOf s (rec .metrics) (boundsOf rec) g)
 foundFault s rec (Found.Refused r) = 0
 
 unfoldable pub codeFault : List ℕ → Record → ℕ → ℕ

@@ -21,6 +21,7 @@ use reads::Refusal;
 use tables::Record;
 ghost use mathlib.Core.Path.{_≡_};
 ghost use Prim.Native.Nat.{_-_};
+ghost use Rattle.place.specs.Bounds.{boundsOf};
 ghost use Rattle.place.specs.Info.{infoOf};
 ghost use Rattle.vet.specs.First.{firstFault};
 ghost use Rattle.vet.specs.Vet.{propFault, boxFault, glyphFault, codeFault, vetRecord, vetted};
@@ -81,19 +82,19 @@ fn box_fault(s: &[u8], rec: Record, i: GlyphInfo) -> u8
 
 // Of a glyph: 10, 11, then those.
 fn glyph_fault(s: &[u8], rec: Record, g: GlyphIndex) -> u8
-    ensures { λ r. ⌜ r ≡ glyphFault (now (s .entry)) rec (infoOf (now (s .entry)) rec g) ⌝ }
+    ensures { λ r. ⌜ r ≡ glyphFault (now (s .entry)) rec (infoOf (now (s .entry)) (rec .metrics) (boundsOf rec) g) ⌝ }
 {
-    match info_of(s, rec, g) {
+    match info_of(s, rec.metrics, rec.accel.maxbounds, g) {
         Prepared::Info(i) => box_fault(s, rec, i),
         Prepared::Refused(r) => r.number,
     }
 }
 
 // Of a code: those of its glyph, or 0 where it has none.
-fn code_fault(s: &[u8], rec: Record, code: u32) -> u8
-    ensures { λ r. ⌜ r ≡ codeFault (now (s .entry)) rec code ⌝ }
+fn code_fault(s: &[u8], rec: Record, code: CharCode) -> u8
+    ensures { λ r. ⌜ r ≡ codeFault (now (s .entry)) rec (code .0) ⌝ }
 {
-    match glyph_of(s, rec.codes, CharCode(code)) {
+    match glyph_of(s, rec.codes, code) {
         Found::Glyph(g) => glyph_fault(s, rec, g),
         Found::Refused(_) => 0,
     }
@@ -104,10 +105,10 @@ fn first_code(s: &[u8], rec: Record) -> First
     ensures { λ r. ⌜ r ≡ firstFault (codeFault (now (s .entry)) rec) 65536 0 ⌝ }
 {
     let range = code_range(rec.codes);
-    let end = range.end;
-    let mut code = range.low;
+    let end = range.end.0;
+    let mut code = range.low.0;
     while code < end {
-        let n = code_fault(s, rec, code);
+        let n = code_fault(s, rec, CharCode(code));
         if n != 0 {
             return First::At(n, code as usize);
         }

@@ -1,10 +1,12 @@
-use Prim.Native.Nat.{ℕ}
-use mathlib.Core.Path.{_≡_, sym, _∙_}
+use Prim.Native.Nat.{ℕ, _≤_}
+use mathlib.Core.Path.{_≡_, refl, sym, _∙_}
 use mathlib.Core.List.{List}
 use Rattle.reads.specs.declared.Refusal.{Refusal}
+use Rattle.reads.proofs.Numbers.{at-most}
 use Rattle.tables.specs.declared.Record.{Record}
 use Rattle.vet.specs.Vet.{vetted}
 use Rattle.vet.specs.declared.Vetted.{Vetted}
+use Rattle.vet.proofs.Refusals.{vet-refusals}
 use Rattle.frames.specs.Dump.{vettedNumber}
 use borrow.Author.Needs.{needs}
 use Rattle.dumper.proofs.print_font.Statement.{statement}
@@ -20,6 +22,10 @@ module _ (s : List ℕ) (found : Vetted) (is : found ≡ vetted s) where
   refused-number : (r : Refusal) → found ≡ Vetted.Refused r → r .number ≡ vettedNumber (vetted s)
   refused-number r e = rw (← is, e)
 
+  -- its number has two digits
+  refused-small : (r : Refusal) → found ≡ Vetted.Refused r → r .number ≤ 99
+  refused-small r e = at-most 99 refl (rw (sym is ∙ e) at (vet-refusals s))
+
 pub print-font-spec : {M : Type 1} → statement M
 print-font-spec =
     tie.close
@@ -28,7 +34,7 @@ print-font-spec =
     (λ c. search needs)  -- enum-known-rec
     (λ c κs. search (passed, needs))  -- print-frames-requires
     (λ c. search needs)  -- enum-known-r
-    (λ c κs. search needs)  -- print-refused-requires
+    (λ c κs. search (refused-small, needs))  -- print-refused-requires
     (λ c. search needs)  -- same-length
     (λ c. search passed-number)  -- returns
     (λ c. search needs)  -- same-length-2

@@ -13,9 +13,11 @@ print-frame-spec =
     (λ c. search frame-within)  -- slice-reshare-prefix-write-all
     (λ c. search (counted, frame-within))  -- slice-aggregate-write-all
     (λ c κs. search needs)  -- write-all-requires
-    (λ c. search needs)  -- enum-told
+    (λ c. search needs)  -- enum-known-r
     (λ c κs. search frame-fits)  -- unreached-requires
     (λ c. search needs)  -- same-length
     (λ c. search needs)  -- returns
     (λ c. search needs)  -- same-length-2
-    (λ c. search needs))  -- returns-2
+    (λ c. search needs)  -- returns-2
+    (λ c. search needs)  -- same-length-3
+    (λ c. search needs))  -- returns-3

@@ -1,5 +1,5 @@
 use borrow.Author.Needs.{needs}
-use Rattle.dumper.proofs.LineCounts.{line-within, counted}
+use Rattle.dumper.proofs.LineCounts.{refused-within, counted}
 use Rattle.dumper.proofs.FramesFit.{refused-fits}
 use Rattle.dumper.proofs.print_refused.Statement.{statement}
 use Rattle.dumper.proofs.print_refused.Tie as tie
@@ -10,8 +10,8 @@ print-refused-spec =
     (tie.spec
     (λ c κs. search needs)  -- put-refused-requires
     (λ c. search needs)  -- enum-known-n
-    (λ c. search line-within)  -- slice-reshare-prefix-write-all
-    (λ c. search (counted, line-within))  -- slice-aggregate-write-all
+    (λ c. search refused-within)  -- slice-reshare-prefix-write-all
+    (λ c. search (counted, refused-within))  -- slice-aggregate-write-all
     (λ c κs. search needs)  -- write-all-requires
     (λ c. search needs)  -- enum-told
     (λ c κs. search refused-fits)  -- unreached-requires

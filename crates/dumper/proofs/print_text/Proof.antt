@@ -1,13 +1,15 @@
 -- The buffer has room for every text, so only a text that is none of bytes is refused here.
 use native.Mathlib.Omega.{arith}
 use Prim.Native.Nat.{ℕ, _≤_}
-use mathlib.Core.Path.{_≡_}
+use mathlib.Core.Path.{_≡_, refl, sym, _∙_}
 use mathlib.Core.List.{List}
 use lib.ListN.{length, take}
 use Rattle.reads.specs.declared.Refusal.{Refusal}
+use Rattle.reads.proofs.Numbers.{at-most}
 use Rattle.hexline.specs.Fill.{hexInto, hexLeaves}
 use Rattle.hexline.specs.declared.HexRead.{HexRead}
 use Rattle.hexline.proofs.Filled.{Filled, filled, room-enough}
+use Rattle.hexline.proofs.Refusals.{fill-bytes-refusals}
 use Rattle.dumper.proofs.LineCounts.{counted}
 use Rattle.vet.specs.Vet.{vetted}
 use Rattle.frames.specs.Dump.{dumpNumber, vettedNumber}
@@ -34,6 +36,10 @@ module _ (text old new : List ℕ) (read : HexRead) (is : read ≡ hexInto text 
   unfolding dumpNumber
   refused-number bad e enough = rw (← room-enough text (length old) enough, ← is, e)
 
+  -- its number has two digits
+  refused-small : (bad : Refusal) → read ≡ HexRead.Refused bad → bad .number ≤ 99
+  refused-small bad e = at-most 99 refl (rw (sym is ∙ e) at (fill-bytes-refusals text (length old)))
+
 pub print-text-spec : {M : Type 1} → statement M
 print-text-spec =
     tie.close
@@ -44,7 +50,7 @@ print-text-spec =
     (λ c. search (counted, within))  -- slice-aggregate-print-font
     (λ c κs. search (short, needs))  -- print-font-requires
     (λ c. search needs)  -- enum-known-bad
-    (λ c κs. search needs)  -- print-refused-requires
+    (λ c κs. search (refused-small, needs))  -- print-refused-requires
     (λ c. search needs)  -- same-length
     (λ c. search needs)  -- same-length-2
     (λ c. search read-number)  -- returns

@@ -2,26 +2,24 @@ use borrow.Author.Needs.{needs}
 use Rattle.tables.proofs.TestedRecord.{tested-6}
 use Rattle.frames.specs.Put.{frameInto}
 use Rattle.frames.specs.declared.Printed.{Printed}
-use Rattle.frames.proofs.Lines.{is-fit, beyond, glyphless, of-glyph, none-said, none-leaves, code-said, code-leaves}
+use Rattle.frames.proofs.HasFrame.{is-fit, framed-small, frame-said, frame-leaves, frameless-said}
 use Rattle.frames.proofs.put_frame.Statement.{statement}
 use Rattle.frames.proofs.put_frame.Tie as tie
 
-returns-4 : tie.Need-returns-4
+returns-3 : tie.Need-returns-3
 unfolding frameInto
-returns-4 c = search (tested-6 Printed.Refused)
+returns-3 c = search (tested-6 Printed.Refused)
 
 pub put-frame-spec : {M : Type 1} → statement M
 put-frame-spec =
     tie.close
     (tie.spec
     (λ c κs. search needs)  -- record-fits-requires
-    (λ c. search (none-said, none-leaves, beyond))  -- returns
-    (λ c κs. search needs)  -- glyph-of-requires
-    (λ c. search needs)  -- enum-known-found
-    (λ c. search needs)  -- cast-put-glyph
-    (λ c κs. search is-fit)  -- put-glyph-requires
-    (λ c. search needs)  -- enum-told
+    (λ c κs. search needs)  -- framed-requires
+    (λ c. search needs)  -- enum-known-ready
+    (λ c κs. search (is-fit, framed-small))  -- put-line-requires
+    (λ c. search needs)  -- enum-known-ready-2
     (λ c. search needs)  -- same-length
-    (λ c. search (code-said, code-leaves, of-glyph))  -- returns-2
-    (λ c. search (none-said, none-leaves, glyphless))  -- returns-3
-    returns-4)
+    (λ c. search (frame-said, frame-leaves))  -- returns
+    (λ c. search frameless-said)  -- returns-2
+    returns-3)

@@ -1,5 +1,5 @@
 use borrow.Author.Needs.{needs}
-use Rattle.names.proofs.Naming.{name-found, name-empty}
+use Rattle.names.proofs.Naming.{name-found, name-stands, name-empty, empty-stands}
 use Rattle.names.proofs.name_bytes.Statement.{statement}
 use Rattle.names.proofs.name_bytes.Tie as tie
 
@@ -12,5 +12,5 @@ name-bytes-spec =
     (λ c κs. search needs)  -- part-of-requires
     (λ c. search needs)  -- enum-told
     (λ c. search needs)  -- slice-aggregate-result
-    (λ c. search name-found)  -- returns
-    (λ c. search name-empty))  -- returns-2
+    (λ c. search (name-found, name-stands))  -- returns
+    (λ c. search (name-empty, empty-stands)))  -- returns-2

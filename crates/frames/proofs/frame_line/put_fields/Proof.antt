@@ -6,8 +6,8 @@ use Rattle.frames.proofs.Lines.{Sizes, sizes, frame-put}
 use Rattle.frames.proofs.frame_line.put_fields.Statement.{statement}
 use Rattle.frames.proofs.frame_line.put_fields.Tie as tie
 
-sizes-here : (c : tie.Start) → Sizes (c .args .s .now) (c .args .rec) (c .args .code) (c .args .i) (c .args .name .now)
-sizes-here c = sizes (c .args .s .now) (c .args .rec) (c .args .code) (c .args .i) (c .args .name .now) (c .pre .0)
+sizes-here : (c : tie.Start) → Sizes (c .args .s .now) (c .args .rec) (c .args .code .0) (c .args .i) (c .args .name .now)
+sizes-here c = sizes (c .args .s .now) (c .args .rec) (c .args .code .0) (c .args .i) (c .args .name .now) (c .pre .0)
 
 -- the six calls' runs, one after the other
 returns : tie.Need-returns
@@ -23,6 +23,7 @@ pub put-fields-spec : {M : Type 1} → statement M
 put-fields-spec =
     tie.close
     (tie.spec
+    (λ c. omega arith)  -- cast-put-three
     (λ c κs. omega (arith, sizes-here (search)))  -- put-three-requires
     (λ c κs. omega (arith, sizes-here (search)))  -- put-three-requires-2
     (λ c κs. omega (arith, sizes-here (search)))  -- put-field-requires

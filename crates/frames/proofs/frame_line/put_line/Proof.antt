@@ -1,5 +1,6 @@
 -- The length that the code computes is that of the line.
 use borrow.Author.Needs.{needs}
+use Rattle.reads.proofs.Places.{known}
 use Rattle.frames.proofs.Lines.{line-named, name-long, line-long, line-room, line-said}
 use Rattle.frames.proofs.frame_line.put_line.Statement.{statement}
 use Rattle.frames.proofs.frame_line.put_line.Tie as tie
@@ -16,6 +17,6 @@ put-line-spec =
     (λ c. search needs)  -- add-fields
     (λ c. search needs)  -- add-if2
     (λ c. search line-long)  -- returns-2
-    (λ c κs. search (line-named, line-room))  -- put-fields-requires
+    (λ c κs. (search line-named, (search line-room, known tie.Start (search) .pre .1)))  -- put-fields-requires
     (λ c. search needs)  -- same-length
     (λ c. search line-said))  -- returns-3

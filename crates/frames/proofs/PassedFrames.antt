@@ -1,0 +1,62 @@
+-- In a font that passed vetting every code with a glyph has a frame, so that 9 is the one refusal left.
+use Prim.Native.Nat.{ℕ, _+_, _*_, _≤_}
+use mathlib.Core.Path.{_≡_, refl, sym, ap, _∙_}
+use mathlib.Core.Bool.{true}
+use mathlib.Core.List.{List}
+use native.Mathlib.Omega.{arith}
+use lib.ListN.{length}
+use borrow.Author.Tests.{le-ltb}
+use Rattle.reads.specs.declared.Refusal.{Refusal}
+use Rattle.tables.specs.Fits.{recordFits}
+use Rattle.tables.specs.declared.Record.{Record}
+use Rattle.load.proofs.Serves.{loaded-serves}
+use Rattle.lookup.specs.Lookup.{glyphOf}
+use Rattle.lookup.specs.declared.Found.{Found}
+use Rattle.lookup.proofs.Refusals.{no-glyph-nine}
+use Rattle.metrics.specs.Measure.{glyphMetrics}
+use Rattle.place.specs.Bounds.{boundsOf}
+use Rattle.place.specs.Info.{boxOf, prepared}
+use Rattle.place.specs.declared.Prepared.{Prepared}
+use Rattle.vet.specs.Vet.{vetted}
+use Rattle.vet.specs.declared.Vetted.{Vetted}
+use Rattle.vet.proofs.PassedCodes.{passed-usable, usable-info}
+use Rattle.vet.proofs.Verdict.{passes-when}
+use Rattle.frames.specs.Frames.{frame}
+use Rattle.frames.specs.Framed.{wholeBox, framed}
+use Rattle.frames.specs.Put.{framedInto, frameInto}
+use Rattle.frames.specs.declared.Printed.{Printed}
+use Rattle.frames.proofs.FrameRoom.{framed-room}
+
+pub passed-framed : (s : List ℕ) (rec : Record) → vetted s ≡ Vetted.Passed rec
+    → (code : ℕ) (r : Refusal) → framed s rec code ≡ Prepared.Refused r → r .number ≡ 9
+unfolding framed prepared wholeBox
+passed-framed s rec passed code r e = by (glyphOf s (rec .codes) code) refl where
+  by : (x : Found) → glyphOf s (rec .codes) code ≡ x → r .number ≡ 9
+  by (Found.Glyph g) found =
+      let u = passed-usable s rec passed code g found in
+      let readable = passes-when s rec .0 passed .1 .readable in
+      let d : Prepared.Info (boxOf g (glyphMetrics s (rec .metrics) (g .0)) (boundsOf rec .ascent)) ≡ Prepared.Refused r =
+      rw (found, usable-info s rec g u, u .has-bitmap, readable, u .has-rows, u .is-named) at e in
+      let z : _≡_ {A = ℕ} 0 1 = cc in absurd (omega arith)
+  by (Found.Refused q) found =
+      let d : Prepared.Refused q ≡ Prepared.Refused r = rw found at e in
+      let same : q ≡ r = cc in
+      ap (λ (x : Refusal). x .number) (sym same) ∙ no-glyph-nine s (rec .codes) code q found
+
+-- where there is room for a frame of so many bytes
+module _ (s : List ℕ) (rec : Record) (passed : vetted s ≡ Vetted.Passed rec) (code room : ℕ) (enough : 34 + 4 * length s ≤ room) where
+  fits : recordFits (length s) rec ≡ true
+  fits = loaded-serves s rec (passes-when s rec .0 passed .0)
+
+  only-nine : (x : Prepared) → framed s rec code ≡ x → (q : Refusal) → framedInto s rec code room x ≡ Printed.Refused q → q .number ≡ 9
+  only-nine (Prepared.Info i) e q d =
+      let within : length (frame s rec code i) ≤ room = omega (arith, framed-room s rec code i fits e) in
+      let put : Printed.Bytes (length (frame s rec code i)) ≡ Printed.Refused q = rw (le-ltb room (length (frame s rec code i)) within) at d in
+      let z : _≡_ {A = ℕ} 0 1 = cc in absurd (omega arith)
+  only-nine (Prepared.Refused r) e q d =
+      let same : r ≡ q = cc in
+      ap (λ (x : Refusal). x .number) (sym same) ∙ passed-framed s rec passed code r e
+
+  pub passed-nine : (q : Refusal) → frameInto s rec code room ≡ Printed.Refused q → q .number ≡ 9
+  unfolding frameInto
+  passed-nine q e = only-nine (framed s rec code) refl q (rw fits at e)

@@ -1,0 +1,35 @@
+-- What a frame is made of: a glyph of which nothing is missing. From document 01: "per character 9, 10, 11, 12, 13, 14 [...]; names and
+-- properties: 6, 17, 18". In a font that passed vetting only 9 is left.
+use Prim.Native.Nat.{ℕ}
+use mathlib.Core.Bool.{cond}
+use mathlib.Core.List.{List}
+use Rattle.reads.specs.Said.{refusal}
+use Rattle.tables.specs.declared.Record.{Record}
+use Rattle.names.specs.Names.{nameOf}
+use Rattle.names.specs.declared.Named.{Named}
+use Rattle.bitmaps.specs.Picture.{noBitmap, unreadable, rowsShort}
+use Rattle.place.specs.Bounds.{boundsOf}
+use Rattle.place.specs.Info.{prepared}
+use Rattle.place.specs.declared.GlyphInfo.{GlyphInfo}
+use Rattle.place.specs.declared.Prepared.{Prepared}
+
+-- 17, 18
+abbrev pub whenNamed : Named → Prepared → Prepared
+whenNamed (Named.Name p) rest = rest
+whenNamed (Named.Refused r) rest = Prepared.Refused r
+
+-- of a placed glyph: 12, 13, 14 over all rows, 17, 18
+unfoldable pub wholeBox : List ℕ → Record → GlyphInfo → Prepared
+wholeBox s rec i =
+    cond (noBitmap (rec .bitmaps) (i .glyph .0)) (Prepared.Refused (refusal 12 0))
+    (cond (unreadable (rec .bitmaps)) (Prepared.Refused (refusal 13 0))
+    (cond (rowsShort s (rec .bitmaps) (i .glyph .0) (i .width) (i .height)) (Prepared.Refused (refusal 14 0))
+    (whenNamed (nameOf s (rec .names) (i .glyph .0)) (Prepared.Info i))))
+
+abbrev pub whenPlaced : List ℕ → Record → Prepared → Prepared
+whenPlaced s rec (Prepared.Info i) = wholeBox s rec i
+whenPlaced s rec (Prepared.Refused r) = Prepared.Refused r
+
+-- of a code: 9, 10, 11, then those
+unfoldable pub framed : List ℕ → Record → ℕ → Prepared
+framed s rec code = whenPlaced s rec (prepared s (rec .codes) (rec .metrics) (boundsOf rec) code)

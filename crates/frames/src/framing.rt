@@ -1,0 +1,53 @@
+// What a frame is made of: a placed glyph of which nothing is missing.
+use bitmaps::no_bitmap;
+use bitmaps::rows_short;
+use bitmaps::unreadable;
+use names::Named;
+use names::name_of;
+use place::GlyphInfo;
+use place::Prepared;
+use place::char_info;
+use reads::CharCode;
+use reads::Refusal;
+use tables::Record;
+ghost use mathlib.Core.Path.{_≡_};
+ghost use Rattle.reads.specs.Said.{refusal};
+ghost use Rattle.frames.specs.Framed.{wholeBox, framed};
+
+fn refused(number: u8) -> Prepared
+    ensures { λ r. ⌜ r ≡ Prepared.Refused (refusal number 0) ⌝ }
+{
+    Prepared::Refused(Refusal { number, place: 0 })
+}
+
+// Of a placed glyph: 12, 13, 14 over all rows, 17, 18, or its box.
+fn whole_box(s: &[u8], rec: Record, i: GlyphInfo) -> Prepared
+    ensures { λ r. ⌜ r ≡ wholeBox (now (s .entry)) rec i ⌝ }
+{
+    let g = i.glyph;
+    if no_bitmap(rec.bitmaps, g) {
+        return refused(12);
+    }
+    if unreadable(rec.bitmaps) {
+        return refused(13);
+    }
+    if rows_short(s, rec.bitmaps, g, i.width, i.height) {
+        return refused(14);
+    }
+    let named = name_of(s, rec.names, g);
+    match named {
+        Named::Name(_) => Prepared::Info(i),
+        Named::Refused(r) => Prepared::Refused(r),
+    }
+}
+
+// Of a code: 9, 10, 11, then those.
+pub(crate) fn framed(s: &[u8], rec: Record, code: CharCode) -> Prepared
+    ensures { λ r. ⌜ r ≡ framed (now (s .entry)) rec (code .0) ⌝ }
+{
+    let placed = char_info(s, rec.codes, rec.metrics, rec.accel.maxbounds, code);
+    match placed {
+        Prepared::Info(i) => whole_box(s, rec, i),
+        Prepared::Refused(r) => Prepared::Refused(r),
+    }
+}

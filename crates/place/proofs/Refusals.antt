@@ -1,0 +1,37 @@
+-- The numbers that placing is refused with: 9, 10, 11.
+use Prim.Native.Nat.{ℕ}
+use mathlib.Core.Path.{refl}
+use mathlib.Core.List.{List, [], _∷_}
+use lib.Dec.{leb}
+use Rattle.reads.specs.Said.{NumberedBy}
+use Rattle.reads.specs.declared.GlyphIndex.{GlyphIndex}
+use Rattle.reads.proofs.Numbers.{has-values, has-number, whichever, wider, one-more}
+use Rattle.tables.specs.declared.EncodingData.{EncodingData}
+use Rattle.tables.specs.declared.MetricsData.{MetricsData}
+use Rattle.tables.specs.declared.MetricsUnpacked.{MetricsUnpacked}
+use Rattle.lookup.specs.Lookup.{glyphOf, saidFound}
+use Rattle.lookup.specs.declared.Found.{Found}
+use Rattle.lookup.proofs.Refusals.{glyph-of-refusals}
+use Rattle.metrics.specs.Measure.{metricsOf, saidMeasured}
+use Rattle.metrics.specs.declared.Measured.{Measured}
+use Rattle.place.specs.Info.{placeable, boxed, withMetrics, infoOf, withGlyph, prepared, saidPrepared}
+use Rattle.place.specs.declared.Prepared.{Prepared}
+
+pub metrics-of-refusals : (s : List ℕ) (m : MetricsData) (g : ℕ) → NumberedBy (10 ∷ []) (saidMeasured (metricsOf s m g))
+unfolding metricsOf
+metrics-of-refusals s m g = whichever saidMeasured (leb (m .count) g) (has-number refl) has-values
+
+module _ (s : List ℕ) (metrics : MetricsData) (bounds : MetricsUnpacked) where
+  pub info-of-refusals : (g : GlyphIndex) → NumberedBy (10 ∷ 11 ∷ []) (saidPrepared (infoOf s metrics bounds g))
+  unfolding infoOf
+  info-of-refusals g = by (metricsOf s metrics (g .0)) (metrics-of-refusals s metrics (g .0)) where
+    by : (x : Measured) → NumberedBy (10 ∷ []) (saidMeasured x) → NumberedBy (10 ∷ 11 ∷ []) (saidPrepared (withMetrics x (λ m. boxed g m (bounds .ascent))))
+    by (Measured.Metrics m) h = whichever saidPrepared (placeable m (bounds .ascent)) has-values (has-number refl)
+    by (Measured.Refused r) h = wider refl h
+
+  pub char-info-refusals : (codes : EncodingData) (code : ℕ) → NumberedBy (9 ∷ 10 ∷ 11 ∷ []) (saidPrepared (prepared s codes metrics bounds code))
+  unfolding prepared
+  char-info-refusals codes code = by (glyphOf s codes code) (glyph-of-refusals s codes code) where
+    by : (x : Found) → NumberedBy (9 ∷ []) (saidFound x) → NumberedBy (9 ∷ 10 ∷ 11 ∷ []) (saidPrepared (withGlyph x (λ g. infoOf s metrics bounds g)))
+    by (Found.Glyph g) h = one-more (info-of-refusals g)
+    by (Found.Refused r) h = wider refl h
