@@ -87,3 +87,9 @@ def public():
     for crate, name, clauses in public_functions():
         answer = re.search(r"-> (\w+)", clauses)
         yield (crate, name), bool(answer) and answer[1] in refusing
+
+
+def signatures():
+    """(crate, name) of each public function, and its parameters"""
+    for crate, name, clauses in public_functions():
+        yield (crate, name), clauses.partition("->")[0].partition("ensures")[0]

@@ -11,6 +11,8 @@ LAST, DUMPS = 20, 20  # the greatest number, and the one that the dump program a
 NUMBERS = {("dumper", "print_dump")}
 # answers no values, so that its theorem is of another form: utf8/proofs/Accepts.antt
 NO_VALUES = {("utf8", "check")}
+# take a record and cannot refuse: the record's own test, the view, whose functions test it, and a name alone
+UNREFUSED = {("tables", "record_fits"), ("font", "open"), ("names", "name_bytes"), ("font", "name_bytes")}
 
 
 class Orders:
@@ -108,6 +110,16 @@ def public(known):
             yield f"{known.page}:{known.cells[call][0]}: {name} can{'' if functions[call] else 'not'} refuse"
 
 
+def recorded(known):
+    """a public function that takes a record, or a view that holds one, tests it before all else"""
+    takers = {call for call, signature in code.signatures() if re.search(r":\s*Record\b|\bself\b", signature)}
+    for call in sorted(takers - UNREFUSED):
+        if known.order(call)[:1] != [6]:
+            yield f"{known.page}:{known.cells[call][0]}: {'::'.join(call)} takes a record and does not refuse 6 first"
+    for call in sorted(UNREFUSED - takers):
+        yield f"{'::'.join(call)} takes no record"
+
+
 def theorems():
     """the theorems on a call's numbers, NAME-refusals: NAME and its list"""
     shared = dict(re.findall(r"^(of\w+) = (.*)", code.read("crates/promises/specs/Refusals.antt"), re.M))
@@ -160,7 +172,7 @@ def differing(has, must):
 def check():
     known, calls, header = Orders(pages.PROMISES, "Function"), Orders(pages.CALLS, "Call"), header_orders()
     exported = {call for call in known.cells if call[0] == "thalluskin"}
-    faults = list(public(known)) + list(proved(known))
+    faults = list(public(known)) + list(recorded(known)) + list(proved(known))
     faults += compare(known, calls, known.first | set(calls.cells))
     faults += compare(known, header, exported | set(header.cells))
     numbers = list(told_numbers(known))

@@ -50,7 +50,7 @@ impl<'a> Font<'a> {
         lookup::get_glyph(self.bytes, self.rec, code)
     }
 
-    // A glyph's name, a part of the font's own bytes, which may be kept longer than the view:
+    // A glyph's name, where it stands in the font's own bytes, which may be kept longer than the view:
     // `names::name_bytes`. Empty where `names::get_name` refuses.
     pub fn name_bytes(self, glyph: GlyphIndex) -> &'a [u8]
         ensures { λ r. ⌜ now r ≡ nameBytes (now (self .entry .bytes)) (getName (now (self .entry .bytes)) (self .entry .rec) (glyph .0)) ⌝ }

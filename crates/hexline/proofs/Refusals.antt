@@ -17,13 +17,13 @@ lines-numbered (l ∷ ls) rest k n =
     let m = n + length l / 2 in
     whichever saidHex (goodLine l) (whichever saidHex (leb m 49152) (lines-numbered ls rest (k + 1) m) (has-number refl)) (has-number refl)
 
-read-numbered : (text : List ℕ) → NumberedBy (20 ∷ []) (saidHex (hexRead text))
+pub hex-read-refusals : (text : List ℕ) → NumberedBy (20 ∷ []) (saidHex (hexRead text))
 unfolding hexRead
-read-numbered text = lines-numbered (linesOf text .ended) (linesOf text .rest) 1 0
+hex-read-refusals text = lines-numbered (linesOf text .ended) (linesOf text .rest) 1 0
 
 pub fill-bytes-refusals : (text : List ℕ) (room : ℕ) → NumberedBy (20 ∷ 15 ∷ []) (saidHex (hexInto text room))
 unfolding hexInto
-fill-bytes-refusals text room = by (hexRead text) (read-numbered text) where
+fill-bytes-refusals text room = by (hexRead text) (hex-read-refusals text) where
   by : (x : HexRead) → NumberedBy (20 ∷ []) (saidHex x) → NumberedBy (20 ∷ 15 ∷ []) (saidHex (fitted room x))
   by (HexRead.Bytes n) h = whichever saidHex (ltb room n) (has-number refl) has-values
   by (HexRead.Refused r) h = wider refl h

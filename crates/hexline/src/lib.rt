@@ -43,7 +43,7 @@ fn bad_line(line: usize) -> HexRead
 // How many bytes a text of lines has, each line 2 to 64 upper-case hexadecimal digits, even in
 // number, and a newline. Refused with 20 and the number, from 1, of the first line that is not such
 // a line or with which there are more than 49,152 bytes. A text of no line has 0 bytes.
-fn hex_read(text: &[u8]) -> HexRead
+pub fn hex_read(text: &[u8]) -> HexRead
     ensures { λ r. ⌜ r ≡ hexRead (now (text .entry)) ⌝ }
 {
     let mut line: usize = 1;

@@ -95,6 +95,8 @@ use Rattle.bitmaps.proofs.bytes_past.Kinds as bytes-past-kinds
 use Rattle.bitmaps.proofs.bytes_past.Reads as bytes-past-reads
 use Rattle.bitmaps.proofs.rows_short.Kinds as rows-short-kinds
 use Rattle.bitmaps.proofs.rows_short.Reads as rows-short-reads
+use Rattle.hexline.proofs.hex_read.Kinds as hex-read-kinds
+use Rattle.hexline.proofs.hex_read.Reads as hex-read-reads
 use Rattle.lookup.proofs.code_range.Kinds as code-range-kinds
 use Rattle.lookup.proofs.code_range.Reads as code-range-reads
 use Rattle.names.proofs.name_of.Kinds as name-of-kinds
@@ -305,6 +307,9 @@ bytes-past-unique κs a r₁ r₂ x₁ x₂ p q = p ∙ sym q
 
 pub rows-short-unique : Fixes 1 rows-short-kinds.ps rows-short-kinds.r rows-short-reads.Post
 rows-short-unique κs a r₁ r₂ x₁ x₂ p q = p ∙ sym q
+
+pub hex-read-unique : Fixes 1 hex-read-kinds.ps hex-read-kinds.r hex-read-reads.Post
+hex-read-unique κs a r₁ r₂ x₁ x₂ p q = p ∙ sym q
 
 pub code-range-unique : Fixes 0 code-range-kinds.ps code-range-kinds.r code-range-reads.Post
 code-range-unique κs a r₁ r₂ x₁ x₂ p q = p ∙ sym q
