@@ -1,7 +1,7 @@
-"""What the model says of a case: number, place, values, and the pixels that changed."""
+"""What the model says of a case: number, place, values, and the pixels or bytes that changed."""
 import model
 
-OLD, COLOUR = 7, 5  # what every pixel has before, and what is drawn; as seen.txt has them
+OLD, COLOUR = 7, 5  # what every pixel or byte has before, and what is drawn; as seen.txt has them
 
 
 def text_of(c):
@@ -46,16 +46,26 @@ def ask(call, font, rec, c):
     if call == "utf8_step":
         step = model.utf8_step(text_of(c), c["i"])
         return [0] if step is None else [1, *step], None
+    if call == "check":
+        model.check(text_of(c))
+        return [], None
+    if call == "put_frame":
+        length, new = model.put_frame(font, rec, c["code"], old)
+        return [length], new
+    if call == "put_refused":
+        length, new = model.put_refused(c["number"], old)
+        return [length], new
     if call == "hex_read":
         return [model.hex_read(text_of(c))], None
     raise ValueError(call)
 
 
 def answer(font, rec, c):
-    """number, place, values, and index and value of each changed pixel in turn"""
+    """number, place, values, and of a lent buffer index and value of each element that changed and its length"""
+    number, place = 0, 0
     try:
         values, new = ask(c["call"], font, rec, c)
     except model.Refused as e:
-        return e.number, e.place, [], []
-    pixels = [n for i, x in enumerate(new or []) if x != OLD for n in (i, x)]
-    return 0, 0, [int(v) for v in values], pixels
+        number, place, values, new = e.number, e.place, [], [OLD] * c["len"] if "len" in c else None
+    left = [] if new is None else [n for i, x in enumerate(new) if x != OLD for n in (i, x)] + [len(new)]
+    return number, place, [int(v) for v in values], left

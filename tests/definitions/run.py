@@ -1,6 +1,6 @@
 #!/usr/bin/env python3
 """Computes the definitions of crates/*/specs on the cases beside this file, and holds each answer to that of
-tests/model: number, place, values, and every pixel that changed.
+tests/model: number, place, values, and every pixel or byte that changed.
 
 fonts.txt has a font a line, in hexadecimal. cases.jsonl has a case a line: the call, the font's line from 0, the
 arguments, and in "rec" what is changed in the record that loading gives (for the font "of", where that is another one).

@@ -5,7 +5,7 @@ import re
 import model
 from definitions.answers import answer, text_of
 
-NO_FONT = ("utf8_step", "hex_read", "dump")
+NO_FONT = ("utf8_step", "check", "hex_read", "put_refused", "dump")
 
 with open(os.path.join(os.path.dirname(os.path.abspath(__file__)), "seen.txt"), encoding="utf-8") as f:
     SEEN = f.read()
@@ -59,14 +59,16 @@ def term(font, rec, c):
         "get_name": "saidNamed (getName {f} {r} {g})", "get_metrics": "saidMeasured (getMetrics {f} {r} {g})",
         "get_accelerators": "saidAccelerated (getAccelerators {f} {r})",
         "dimensions": "saidSized (dimensions {f} {r})", "prep_char": "saidPrepared (prepChar {f} {r} {code})",
-        "utf8_step": "saidStep (stepAt {t} {i})", "hex_read": "saidHex (hexRead {t})",
+        "utf8_step": "saidStep (stepAt {t} {i})", "check": "saidChecked (checkedText {t})",
+        "hex_read": "saidHex (hexRead {t})",
     }
-    draws = {
+    lent = {
         "draw_bitmap": "bitmap {f} {r} {g} {width} {height} {len} {start} {stride} {scale}",
         "draw_glyph": "glyph {f} {r} {box} {len} {start} {stride} {scale}",
         "draw_char": "char {f} {r} {code} {len} {start} {stride} {scale}",
         "draw_string": "string {f} {r} {t} {len} {lay}",
         "unpack_glyph": "unpack {f} {r} {box} {len} {start} {stride}",
+        "put_frame": "putFrame {f} {r} {code} {len}", "put_refused": "putRefused {number} {len}",
     }
     names = dict(c, f=font, r=rec, t=text)
     if "info" in c:
@@ -75,8 +77,8 @@ def term(font, rec, c):
         names["lay"] = layout(c)
     if call == "dump":
         return f"dumped {text}"
-    if call in draws:
-        return draws[call].format(**names)
+    if call in lent:
+        return lent[call].format(**names)
     return "seen (" + said[call].format(**names) + ") []"
 
 
@@ -84,9 +86,9 @@ def answer_term(font, rec, c):
     """what the model says of a case"""
     if c["call"] == "dump":
         return numbers(model.dump(text_of(c)))
-    n, place, values, pixels = answer(font, rec, c)
+    n, place, values, left = answer(font, rec, c)
     listed = "(" + "".join(f"{whole(v)} ∷ " for v in values) + "[])"
-    return f"seen (said {n} {place} {listed}) {numbers(pixels)}"
+    return f"seen (said {n} {place} {listed}) {numbers(left)}"
 
 
 def module(batch, fonts, uses, opened):

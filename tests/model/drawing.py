@@ -54,6 +54,19 @@ def lacks_data(bm, starts, columns):
     return False
 
 
+def rows_in_data(b, rec, g, width, rows, columns):
+    """where each row of a glyph begins in the data, or the refusal number 12, 13 or 14"""
+    bm = rec["bitmaps"]
+    if g >= bm["count"]:
+        return 12
+    if cannot_draw(bm):
+        return 13
+    starts = row_starts(b, rec, g, width, rows)
+    if lacks_data(bm, starts, columns):
+        return 14
+    return starts
+
+
 def is_set(b, bm, start, column):
     """whether the pixel of a column is set, in the row that begins there in the data"""
     at, value = holder(bm, column)
@@ -74,20 +87,15 @@ def bad_scale(scale):
 
 def picture(b, rec, g, width, height, L, p, stride, scale):
     """The core of drawing: a refusal number (12, 13, 14, 16) or (rows, [pixels])."""
-    bm = rec["bitmaps"]
-    if g >= bm["count"]:
-        return 12
-    if cannot_draw(bm):
-        return 13
     m = 0 if p > L else (L - p) // stride
     rows = min(height, (m // scale) * scale)
-    starts = row_starts(b, rec, g, width, rows)
-    if lacks_data(bm, starts, width):
-        return 14
+    starts = rows_in_data(b, rec, g, width, rows, width)
+    if isinstance(starts, int):
+        return starts
     pixels = []
     for r in range(rows):
         for c in range(width):
-            if is_set(b, bm, starts[r], c):
+            if is_set(b, rec["bitmaps"], starts[r], c):
                 for a in range(scale):
                     for bb in range(scale):
                         q = p + r * stride * scale + c * scale + a * stride + bb
@@ -176,20 +184,17 @@ def unpack_check(b, rec, info, L, start, stride):
     check_record(b, rec)
     if bad_info(info) or bad_start_stride(start, stride):
         raise Refused(15)
-    bm = rec["bitmaps"]
-    if info["glyph"] >= bm["count"]:
-        return 0, []
-    if cannot_draw(bm):
-        raise Refused(13)
     p = start + stride * info["pad_top"] + info["pad_left"]
-    starts = row_starts(b, rec, info["glyph"], info["width"], info["height"])
     columns = 8 * ceil8(info["width"])       # whole bytes
-    if lacks_data(bm, starts, columns):
-        raise Refused(14)
+    starts = rows_in_data(b, rec, info["glyph"], info["width"], info["height"], columns)
+    if starts == 12:
+        return 0, []
+    if isinstance(starts, int):
+        raise Refused(starts)
     pixels = []
     for r in range(info["height"]):
         for c in range(columns):
-            if is_set(b, bm, starts[r], c):
+            if is_set(b, rec["bitmaps"], starts[r], c):
                 q = p + r * stride + c
                 if q >= L:
                     raise Refused(16)

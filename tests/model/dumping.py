@@ -1,9 +1,10 @@
-"""The dump: its input, lines of hexadecimal digits, and a frame for each code with a glyph."""
+"""The dump: its input, lines of hexadecimal digits, and a frame for each code with a glyph; and each of its lines
+written into a buffer."""
 from model.codes import lookup
-from model.drawing import ceil8, is_set, row_starts
-from model.metrics import place_glyph
+from model.drawing import ceil8, is_set, rows_in_data
+from model.metrics import prep_char
 from model.refusal import Refused
-from model.strings import name_part
+from model.strings import get_name
 from model.vetting import vet
 
 DIGITS = b"0123456789ABCDEF"
@@ -47,29 +48,53 @@ def picture_byte(b, bm, start, k):
     return byte
 
 
+def frame(b, rec, code):
+    """the line of a code's frame, or Refused with what the code or its name lacks"""
+    info = prep_char(b, rec, code)
+    g, width, height = info["glyph"], info["width"], info["height"]
+    starts = rows_in_data(b, rec, g, width, height, width)
+    if isinstance(starts, int):
+        raise Refused(starts)
+    ns, nl = get_name(b, rec, g)
+    name = "".join("%02X" % b[ns + k] for k in range(nl))
+    rows = ""
+    for start in starts:
+        for k in range(ceil8(width)):
+            rows = rows + "%02X" % picture_byte(b, rec["bitmaps"], start, k)
+    if name == "":
+        name = "-"
+    if rows == "":
+        rows = "-"
+    return ("%04X %04X %04X %04X %04X %04X %s %s\n" % (
+        code, g, width, height, info["pad_top"], info["pad_left"], name, rows)).encode()
+
+
+def refused(number):
+    """the line of a refusal"""
+    return ("refused %02d\n" % number).encode()
+
+
 def dump(text):
     try:
         b = hex_bytes(text)
         rec = vet(b)
     except Refused as e:
-        return ("refused %02d\n" % e.number).encode()
-    bm = rec["bitmaps"]
-    out = ""
-    for code in range(65536):
-        g = lookup(b, rec, code)
-        if g is None:
-            continue
-        info = place_glyph(b, rec, g)
-        ns, nl = name_part(b, rec, g)
-        name = "".join("%02X" % b[ns + k] for k in range(nl))
-        rows = ""
-        for start in row_starts(b, rec, g, info["width"], info["height"]):
-            for k in range(ceil8(info["width"])):
-                rows = rows + "%02X" % picture_byte(b, bm, start, k)
-        if name == "":
-            name = "-"
-        if rows == "":
-            rows = "-"
-        out = out + "%04X %04X %04X %04X %04X %04X %s %s\n" % (
-            code, g, info["width"], info["height"], info["pad_top"], info["pad_left"], name, rows)
-    return out.encode()
+        return refused(e.number)
+    return b"".join(frame(b, rec, code) for code in range(65536) if lookup(b, rec, code) is not None)
+
+
+def put(line, buf):
+    """how many bytes a line has, and the buffer with the line at its start"""
+    if len(line) > len(buf):
+        raise Refused(15)
+    return len(line), list(line) + buf[len(line):]
+
+
+def put_frame(b, rec, code, buf):
+    return put(frame(b, rec, code), buf)
+
+
+def put_refused(number, buf):
+    if number > 99:
+        raise Refused(15)                    # a line has two digits
+    return put(refused(number), buf)

@@ -4,21 +4,14 @@ from model.drawing import bad_scale, bad_start_stride, coloured, glyph_picture
 from model.metrics import bounds_hold, place_glyph
 from model.record import check_record
 from model.refusal import Refused
-from model.utf8 import utf8_step
+from model.utf8 import check, utf8_step
 
 
 def text_check(b, rec, text, L, start, wrap, stride, scale):
     check_record(b, rec)
     if bad_start_stride(start, stride) or bad_scale(scale):
         raise Refused(15)
-    if len(text) > 65535:
-        raise Refused(19, 0)
-    i = 0
-    while True:
-        s = utf8_step(text, i)
-        if s is None:
-            break
-        i = s[1]
+    check(text)
     if not bounds_hold(rec):
         raise Refused(11)
     mx = rec["accel"]["maxbounds"]

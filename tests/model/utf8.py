@@ -1,4 +1,4 @@
-"""UTF-8, a character at a time."""
+"""UTF-8, a character at a time and a whole text."""
 from model.refusal import Refused
 
 # Unicode, table 3-7: well-formed UTF-8 byte sequences
@@ -38,3 +38,12 @@ def utf8_step(text, i):
                         + (text[i + 2] - 0x80) * 64 + (text[i + 3] - 0x80))
             return (code, i + len(row))
     raise Refused(19, i)
+
+
+def check(text):
+    """Refused 19 for a text that is too long, at 0, or is not UTF-8"""
+    if len(text) > 65535:
+        raise Refused(19)
+    i = 0
+    while i < len(text):
+        i = utf8_step(text, i)[1]

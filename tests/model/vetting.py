@@ -1,6 +1,6 @@
 """Vetting: loading, then every property and every code."""
 from model.codes import lookup
-from model.drawing import cannot_draw, lacks_data, row_starts
+from model.drawing import cannot_draw, rows_in_data
 from model.loading import load
 from model.metrics import bounds_hold, place_glyph
 from model.refusal import Refused
@@ -9,8 +9,7 @@ from model.strings import name_part, property_parts
 
 def vet(b):
     rec = load(b)
-    bm = rec["bitmaps"]
-    if cannot_draw(bm):
+    if cannot_draw(rec["bitmaps"]):
         raise Refused(13)
     if not bounds_hold(rec):
         raise Refused(11)
@@ -24,10 +23,9 @@ def vet(b):
         info = place_glyph(b, rec, g)
         if isinstance(info, int):
             raise Refused(info, code)
-        if g >= bm["count"]:
-            raise Refused(12, code)
-        if lacks_data(bm, row_starts(b, rec, g, info["width"], info["height"]), info["width"]):
-            raise Refused(14, code)
+        starts = rows_in_data(b, rec, g, info["width"], info["height"], info["width"])  # not 13, as tested
+        if isinstance(starts, int):
+            raise Refused(starts, code)
         if g >= rec["names"]["count"]:
             raise Refused(17, code)
         if name_part(b, rec, g) is None:
