@@ -430,7 +430,8 @@ def main():
         if check and read(path) != text:
             fail(f"{path} is not what tools/view.py writes")
         if not check:
-            with open(os.path.join(ROOT, path), "w", encoding="utf-8") as f:
+            os.makedirs(os.path.dirname(os.path.join(ROOT, path)), exist_ok=True)
+        with open(os.path.join(ROOT, path), "w", encoding="utf-8") as f:
                 f.write(text)
 
 

@@ -3,7 +3,6 @@
 use crate::words::number;
 use crate::words::say;
 ghost use mathlib.Core.Path.{_≡_};
-ghost use lib.ListN.{length};
 ghost use Rattle.console.specs.Before.{before, Filled};
 
 // The values before a call. Nothing is drawn in such a colour.

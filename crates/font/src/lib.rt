@@ -5,6 +5,7 @@ mod shown;
 
 use glyphs::CharDrawn;
 use lookup::Found;
+use names::Named;
 use place::Prepared;
 use place::Sized;
 use reads::CharCode;
@@ -48,6 +49,13 @@ impl<'a> Font<'a> {
         ensures { λ r. ⌜ r ≡ getGlyph (now (self .entry .bytes)) (self .entry .rec) (code .0) ⌝ }
     {
         lookup::get_glyph(self.bytes, self.rec, code)
+    }
+
+    // Where a glyph's name stands in the font's bytes: `names::get_name`. Refused 6, 17, 18.
+    pub fn get_name(self, glyph: GlyphIndex) -> Named
+        ensures { λ r. ⌜ r ≡ getName (now (self .entry .bytes)) (self .entry .rec) (glyph .0) ⌝ }
+    {
+        names::get_name(self.bytes, self.rec, glyph)
     }
 
     // A glyph's name, where it stands in the font's own bytes, which may be kept longer than the view:

@@ -1,5 +1,5 @@
 -- How much room a frame can need: the rows of a glyph that lie in the bitmap data, and a name, are no more bytes than the font has.
-use mathlib.Core.Path.{_≡_, refl, sym, subst, _∙_}
+use mathlib.Core.Path.{_≡_, refl, sym, _∙_}
 use mathlib.Core.Bool.{true, false, Bool·beq}
 use mathlib.Core.List.{List}
 use Prim.Native.Nat.{ℕ, zero, suc, _+_, _-_, _*_, _≤_, _<_}
@@ -26,10 +26,10 @@ use Rattle.bitmaps.proofs.RowEnds.{held-straight, held-mirrored, end-straight, 
 use Rattle.place.specs.declared.GlyphInfo.{GlyphInfo}
 use Rattle.place.specs.declared.Prepared.{Prepared}
 use Rattle.frames.specs.Frames.{glyphRows, frame}
-use Rattle.frames.specs.Framed.{framed}
+use Rattle.frames.specs.Whole.{wholeGlyph}
 use Rattle.frames.proofs.RowRuns.{length-rows, one-more}
 use Rattle.frames.proofs.FrameLength.{length-frame}
-use Rattle.frames.proofs.HasFrame.{framed-rows}
+use Rattle.frames.proofs.HasFrame.{whole-rows}
 
 -- rows do not overlap: a stride is no shorter than a row
 stride-covers : (width pad : ℕ) → 0 < pad → rowBytes width ≤ rowStride width pad
@@ -82,13 +82,13 @@ name-within s (Named.Name p) = rw (length-take (p .len) (drop (p .start) s), len
 name-within s (Named.Refused r) = omega arith
 
 -- a frame, of any font that its record fits: 49,152 bytes need at most 196,642 characters
-pub framed-room : (s : List ℕ) (rec : Record) (code : ℕ) (i : GlyphInfo)
-    → recordFits (length s) rec ≡ true → framed s rec code ≡ Prepared.Info i → length (frame s rec code i) ≤ 34 + 4 * length s
-framed-room s rec code i fits e =
+pub frame-room : (s : List ℕ) (rec : Record) (code : ℕ) (i : GlyphInfo)
+    → recordFits (length s) rec ≡ true → wholeGlyph s rec code ≡ Prepared.Info i → length (frame s rec code i) ≤ 34 + 4 * length s
+frame-room s rec code i fits e =
     omega (
       arith,
       length-frame s rec i code,
       name-within s (nameOf s (rec .names) (i .glyph .0)),
       length-rows s (rec .bitmaps) i 0 (i .height),
-      rows-within s (rec .bitmaps) i (pad-above-0 (length s) rec fits) (framed-rows s rec code i e),
+      rows-within s (rec .bitmaps) i (pad-above-0 (length s) rec fits) (whole-rows s rec code i e),
     )

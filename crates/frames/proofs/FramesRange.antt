@@ -1,7 +1,7 @@
 -- The frames of all codes are those of the table's range of codes, since no other code has a glyph.
 use mathlib.Core.Path.{_≡_, refl, sym, _∙_}
 use mathlib.Core.List.{List, [], _++_, append-nil, append-assoc}
-use mathlib.Core.Logic.{_⊎_, inl, inr}
+use mathlib.Core.Logic.{inl, inr}
 use Prim.Native.Nat.{ℕ, zero, suc, _+_, _-_, _≤_, _<_}
 use native.Mathlib.Nat.{zero-add, add-zero}
 use native.Mathlib.Omega.{arith}
@@ -10,9 +10,9 @@ use borrow.Author.Tests.{leb-true, leb-false}
 use Rattle.reads.proofs.Tests.{split}
 use Rattle.tables.specs.declared.Record.{Record}
 use Rattle.lookup.specs.CodeRange.{codeRange}
-use Rattle.lookup.proofs.OutsideRange.{outside-none, range-end}
-use Rattle.place.specs.Info.{prepared}
+use Rattle.lookup.proofs.OutsideRange.{Outside, range-end}
 use Rattle.frames.specs.Frames.{frameOf, framesFrom}
+use Rattle.frames.proofs.HasFrame.{outside-whole}
 
 module _ (s : List ℕ) (rec : Record) where
   -- the lines of m + n codes are those of the first m and of the n after them
@@ -25,9 +25,9 @@ module _ (s : List ℕ) (rec : Record) where
       rw (e, frames-append m n (code + 1), f)
       (sym (append-assoc (frameOf s rec code) (framesFrom s rec m (code + 1)) (framesFrom s rec n (code + suc m))))
 
-  outside-frame : (code : ℕ) → (code < codeRange (rec .codes) .low .0) ⊎ (codeRange (rec .codes) .end .0 ≤ code) → frameOf s rec code ≡ []
-  unfolding frameOf prepared
-  outside-frame code out = rw (outside-none (rec .codes) code s out) refl
+  outside-frame : (code : ℕ) → Outside (rec .codes) code → frameOf s rec code ≡ []
+  unfolding frameOf
+  outside-frame code out = rw (outside-whole s rec code out) refl
 
   -- codes without a frame print nothing
   frames-none : (n code : ℕ) → ((k : ℕ) → code ≤ k → k < code + n → frameOf s rec k ≡ []) → framesFrom s rec n code ≡ []

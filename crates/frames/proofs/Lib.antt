@@ -7,6 +7,7 @@ pub mod Lines
 pub mod HasFrame
 pub mod FrameRoom
 pub mod PassedFrames
+pub mod Refusals
 pub mod FramesRange
 pub mod DumpRange
 pub mod DumpNumber

@@ -1,28 +1,19 @@
 -- A frame's line: the runs that it is made of, how much room it takes, and what is answered where it is short of room.
 use Prim.Native.Nat.{ℕ, _+_, _*_, _/_, _≤_, _<_, max}
-use mathlib.Core.Path.{_≡_, sym, _∙_}
-use mathlib.Core.Bool.{Bool, true}
+use mathlib.Core.Path.{_≡_, _∙_}
+use mathlib.Core.Bool.{true}
 use mathlib.Core.List.{List, [], _∷_, _++_}
 use native.Mathlib.Omega.{arith}
 use lib.ListN.{length}
-use lib.Seq.{sets}
-use borrow.Author.Tests.{lt-ltb}
 use Rattle.reads.specs.Said.{refusal}
-use Rattle.reads.specs.declared.GlyphIndex.{GlyphIndex}
-use Rattle.reads.specs.declared.Refusal.{Refusal}
 use Rattle.tables.specs.Fits.{recordFits}
 use Rattle.tables.specs.declared.Record.{Record}
-use Rattle.lookup.specs.Lookup.{slotOf, glyphOf}
-use Rattle.lookup.specs.declared.Found.{Found}
 use Rattle.names.specs.Names.{nameOf, getName, nameBytes}
 use Rattle.bitmaps.specs.Rows.{rowBytes}
-use Rattle.place.specs.Bounds.{boundsOf}
-use Rattle.place.specs.Info.{infoOf}
 use Rattle.place.specs.declared.GlyphInfo.{GlyphInfo}
-use Rattle.place.specs.declared.Prepared.{Prepared}
 use Rattle.frames.specs.Hex.{hexFour, field, _␣_}
-use Rattle.frames.specs.Frames.{glyphRows, frame, frameInfo, frameOf}
-use Rattle.frames.specs.Put.{Put, lineInto, lineLeaves, frameInto, frameLeaves}
+use Rattle.frames.specs.Frames.{glyphRows, frame}
+use Rattle.frames.specs.Put.{Put, lineInto}
 use Rattle.frames.specs.declared.Printed.{Printed}
 use Rattle.frames.proofs.Chain.{no-room, line-put}
 use Rattle.frames.proofs.HexRuns.{length-field}

@@ -22,15 +22,15 @@ use Rattle.vet.specs.declared.Vetted.{Vetted}
 use Rattle.vet.proofs.PassedCodes.{passed-usable, usable-info}
 use Rattle.vet.proofs.Verdict.{passes-when}
 use Rattle.frames.specs.Frames.{frame}
-use Rattle.frames.specs.Framed.{wholeBox, framed}
-use Rattle.frames.specs.Put.{framedInto, frameInto}
+use Rattle.frames.specs.Whole.{wholeBox, wholeGlyph}
+use Rattle.frames.specs.Put.{glyphInto, frameInto}
 use Rattle.frames.specs.declared.Printed.{Printed}
-use Rattle.frames.proofs.FrameRoom.{framed-room}
+use Rattle.frames.proofs.FrameRoom.{frame-room}
 
-pub passed-framed : (s : List ℕ) (rec : Record) → vetted s ≡ Vetted.Passed rec
-    → (code : ℕ) (r : Refusal) → framed s rec code ≡ Prepared.Refused r → r .number ≡ 9
-unfolding framed prepared wholeBox
-passed-framed s rec passed code r e = by (glyphOf s (rec .codes) code) refl where
+pub passed-whole : (s : List ℕ) (rec : Record) → vetted s ≡ Vetted.Passed rec
+    → (code : ℕ) (r : Refusal) → wholeGlyph s rec code ≡ Prepared.Refused r → r .number ≡ 9
+unfolding wholeGlyph prepared wholeBox
+passed-whole s rec passed code r e = by (glyphOf s (rec .codes) code) refl where
   by : (x : Found) → glyphOf s (rec .codes) code ≡ x → r .number ≡ 9
   by (Found.Glyph g) found =
       let u = passed-usable s rec passed code g found in
@@ -48,15 +48,15 @@ module _ (s : List ℕ) (rec : Record) (passed : vetted s ≡ Vetted.Passed rec)
   fits : recordFits (length s) rec ≡ true
   fits = loaded-serves s rec (passes-when s rec .0 passed .0)
 
-  only-nine : (x : Prepared) → framed s rec code ≡ x → (q : Refusal) → framedInto s rec code room x ≡ Printed.Refused q → q .number ≡ 9
+  only-nine : (x : Prepared) → wholeGlyph s rec code ≡ x → (q : Refusal) → glyphInto s rec code room x ≡ Printed.Refused q → q .number ≡ 9
   only-nine (Prepared.Info i) e q d =
-      let within : length (frame s rec code i) ≤ room = omega (arith, framed-room s rec code i fits e) in
+      let within : length (frame s rec code i) ≤ room = omega (arith, frame-room s rec code i fits e) in
       let put : Printed.Bytes (length (frame s rec code i)) ≡ Printed.Refused q = rw (le-ltb room (length (frame s rec code i)) within) at d in
       let z : _≡_ {A = ℕ} 0 1 = cc in absurd (omega arith)
   only-nine (Prepared.Refused r) e q d =
       let same : r ≡ q = cc in
-      ap (λ (x : Refusal). x .number) (sym same) ∙ passed-framed s rec passed code r e
+      ap (λ (x : Refusal). x .number) (sym same) ∙ passed-whole s rec passed code r e
 
   pub passed-nine : (q : Refusal) → frameInto s rec code room ≡ Printed.Refused q → q .number ≡ 9
   unfolding frameInto
-  passed-nine q e = only-nine (framed s rec code) refl q (rw fits at e)
+  passed-nine q e = only-nine (wholeGlyph s rec code) refl q (rw fits at e)

@@ -9,10 +9,9 @@ use Rattle.bitmaps.specs.Units.{orderOf, rowByte}
 use Rattle.bitmaps.specs.Rows.{rowBytes}
 use Rattle.bitmaps.specs.declared.Order.{Order}
 use Rattle.bitmaps.specs.Picture.{bitsOf, rowOf}
-use Rattle.place.specs.Bounds.{boundsOf}
-use Rattle.place.specs.Info.{prepared}
 use Rattle.place.specs.declared.GlyphInfo.{GlyphInfo}
 use Rattle.place.specs.declared.Prepared.{Prepared}
+use Rattle.frames.specs.Whole.{wholeGlyph}
 use Rattle.frames.specs.Hex.{hexFour, field, _␣_}
 
 -- n bytes of the row that begins at byte `row` of the data, eight columns each, from the j-th eight on
@@ -38,9 +37,9 @@ abbrev pub frameInfo : List ℕ → Record → ℕ → Prepared → List ℕ
 frameInfo s rec code (Prepared.Info i) = frame s rec code i
 frameInfo s rec code (Prepared.Refused r) = []
 
--- a code's line; a code without glyph has none
+-- a code's line, where nothing of it is missing
 unfoldable pub frameOf : List ℕ → Record → ℕ → List ℕ
-frameOf s rec code = frameInfo s rec code (prepared s (rec .codes) (rec .metrics) (boundsOf rec) code)
+frameOf s rec code = frameInfo s rec code (wholeGlyph s rec code)
 
 -- the lines of the n codes from `code` on, ascending
 unfoldable pub framesFrom : List ℕ → Record → ℕ → ℕ → List ℕ

@@ -1,6 +1,6 @@
 pub mod Typed
 pub mod Hex
+pub mod Whole
 pub mod Frames
-pub mod Framed
 pub mod Put
 pub mod Dump

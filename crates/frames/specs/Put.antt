@@ -14,7 +14,7 @@ use Rattle.tables.specs.declared.Record.{Record}
 use Rattle.place.specs.declared.Prepared.{Prepared}
 use Rattle.frames.specs.Typed.{typed}
 use Rattle.frames.specs.Frames.{frame, frameOf}
-use Rattle.frames.specs.Framed.{framed}
+use Rattle.frames.specs.Whole.{wholeGlyph}
 use Rattle.frames.specs.declared.Printed.{Printed}
 
 -- `refused NN`: the word, a space, two decimal digits, a newline
@@ -30,14 +30,14 @@ abbrev pub lineLeaves : List ℕ → Printed → List ℕ → List ℕ
 lineLeaves line (Printed.Bytes n) old = sets old 0 line
 lineLeaves line (Printed.Refused r) old = old
 
--- of what a frame is made of
-abbrev pub framedInto : List ℕ → Record → ℕ → ℕ → Prepared → Printed
-framedInto s rec code room (Prepared.Info i) = lineInto (frame s rec code i) room
-framedInto s rec code room (Prepared.Refused r) = Printed.Refused r
+-- a glyph's line, or why there is none
+abbrev pub glyphInto : List ℕ → Record → ℕ → ℕ → Prepared → Printed
+glyphInto s rec code room (Prepared.Info i) = lineInto (frame s rec code i) room
+glyphInto s rec code room (Prepared.Refused r) = Printed.Refused r
 
--- `put_frame`: 6, then why there is no frame, then 15
+-- `put_frame`: 6, then why there is no frame; 15 last, when the line and with it the room it needs are known
 unfoldable pub frameInto : List ℕ → Record → ℕ → ℕ → Printed
-frameInto s rec code room = tested Printed.Refused s rec (framedInto s rec code room (framed s rec code))
+frameInto s rec code room = tested Printed.Refused s rec (glyphInto s rec code room (wholeGlyph s rec code))
 
 abbrev pub frameLeaves : List ℕ → Record → ℕ → Printed → List ℕ → List ℕ
 frameLeaves s rec code answer old = lineLeaves (frameOf s rec code) answer old

@@ -1,19 +1,19 @@
-// What the dump prints, written into a lent buffer: specs/Frames.antt defines a frame, specs/Put.antt
-// what writing one leaves, specs/Dump.antt the whole output.
+// What the dump prints, written into a lent buffer: specs/Whole.antt says which code has a frame,
+// specs/Frames.antt what a frame is, specs/Put.antt what writing one leaves, specs/Dump.antt the whole output.
 mod digits;
 mod frame_line;
-mod framing;
 mod glyph_rows;
+mod whole;
 
 use digits::put_one;
 use digits::put_text;
 use frame_line::put_line;
-use framing::framed;
 use place::Prepared;
 use reads::CharCode;
 use reads::Refusal;
 use tables::Record;
 use tables::record_fits;
+use whole::whole_glyph;
 ghost use mathlib.Core.Path.{_≡_};
 ghost use lib.ListN.{length};
 ghost use Rattle.frames.specs.Put.{frameInto, frameLeaves, refusedInto, refusedLeaves};
@@ -35,8 +35,8 @@ pub fn put_frame(bytes: &[u8], rec: Record, code: CharCode, out: &mut [u8]) -> P
     ensures { λ r. ⌜ now (out .exit) ≡ frameLeaves (now (bytes .entry)) rec (code .0) r (now (out .entry)) ⌝ }
 {
     if record_fits(bytes.len(), rec) {
-        let ready = framed(bytes, rec, code);
-        match ready {
+        let whole = whole_glyph(bytes, rec, code);
+        match whole {
             Prepared::Info(i) => put_line(bytes, rec, code, i, out),
             Prepared::Refused(r) => Printed::Refused(r),
         }

@@ -23,8 +23,7 @@ use Rattle.bitmaps.specs.Unpack.{unscaled, unpackedAt, unpackedLeaves}
 use Rattle.bitmaps.specs.declared.Drawn.{Drawn}
 use Rattle.bitmaps.specs.declared.Unpacked.{Unpacked}
 use Rattle.outcome.proofs.WithinLimits.{place-limits}
-use Rattle.place.specs.Bounds.{boundsOf}
-use Rattle.place.specs.Info.{prepared}
+use Rattle.place.specs.Info.{preparedIn}
 use Rattle.place.specs.declared.GlyphInfo.{GlyphInfo}
 use Rattle.place.specs.declared.Prepared.{Prepared}
 use Rattle.glyphs.specs.Glyph.{placeOf, okInfo, nothingDrawn, glyphDrawn, glyphReady, drawGlyph}
@@ -89,20 +88,20 @@ placed-within false within q i e = let z : _≡_ {A = ℕ} 0 1 = cc in absurd (o
 
 module _ (s : List ℕ) (rec : Record) (code : ℕ) (at : Place) (place : Bool) (permit : Permit) (place-is : place ≡ okPlace at)
     (permit-is : permit ≡ guard s rec place) where
-  pub ready-placed : (r : Prepared) → permit ≡ Permit.Given → r ≡ prepared s (rec .codes) (rec .metrics) (boundsOf rec) code → r ≡ charReady s rec code at
+  pub ready-placed : (r : Prepared) → permit ≡ Permit.Given → r ≡ preparedIn s rec code → r ≡ charReady s rec code at
   unfolding charReady
-  ready-placed r e is = rw (← place-is) (is ∙ sym (guarded-answers s rec place permit permit-is Prepared.Refused (prepared s (rec .codes) (rec .metrics) (boundsOf rec) code) e))
+  ready-placed r e is = rw (← place-is) (is ∙ sym (guarded-answers s rec place permit permit-is Prepared.Refused (preparedIn s rec code) e))
 
   pub ready-refused : (r : Refusal) → permit ≡ Permit.Refused r → Prepared.Refused r ≡ charReady s rec code at
   unfolding charReady
-  ready-refused r e = rw (← place-is) (sym (guarded-refuses s rec place permit permit-is Prepared.Refused (prepared s (rec .codes) (rec .metrics) (boundsOf rec) code) r e))
+  ready-refused r e = rw (← place-is) (sym (guarded-refuses s rec place permit permit-is Prepared.Refused (preparedIn s rec code) r e))
 
 module _ (s : List ℕ) (rec : Record) (code start stride scale : ℕ) (ready : Prepared)
     (ready-is : ready ≡ charReady s rec code (placeAt start stride scale)) (i : GlyphInfo) (e : ready ≡ Prepared.Info i) where
   char-within : okPlace (placeAt start stride scale) ≡ true
   unfolding charReady
   char-within =
-      placed-within (recordFits (length s) rec) (okPlace (placeAt start stride scale)) (prepared s (rec .codes) (rec .metrics) (boundsOf rec) code) i (sym ready-is ∙ e)
+      placed-within (recordFits (length s) rec) (okPlace (placeAt start stride scale)) (preparedIn s rec code) i (sym ready-is ∙ e)
 
   pub char-stride-fits : Fits w16 stride
   char-stride-fits = omega (arith, place-limits start stride scale char-within)

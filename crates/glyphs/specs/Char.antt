@@ -9,8 +9,7 @@ use Rattle.bitmaps.specs.Place.{Place}
 use Rattle.bitmaps.specs.Limits.{okPlace}
 use Rattle.bitmaps.specs.Draw.{rowsValues}
 use Rattle.bitmaps.specs.declared.Drawn.{Drawn}
-use Rattle.place.specs.Bounds.{boundsOf}
-use Rattle.place.specs.Info.{prepared, infoValues}
+use Rattle.place.specs.Info.{infoValues, preparedIn}
 use Rattle.glyphs.specs.Glyph.{glyphDrawn, inInfo}
 use Rattle.place.specs.declared.GlyphInfo.{GlyphInfo}
 use Rattle.place.specs.declared.Prepared.{Prepared}
@@ -27,7 +26,7 @@ charOf i (Drawn.Refused r) = CharDrawn.Refused r
 
 -- a character placed, with the tests before: 6, 15, 9, 10, 11
 unfoldable pub charReady : List ℕ → Record → ℕ → Place → Prepared
-charReady s rec code at = guarded Prepared.Refused s rec (okPlace at) (prepared s (rec .codes) (rec .metrics) (boundsOf rec) code)
+charReady s rec code at = guarded Prepared.Refused s rec (okPlace at) (preparedIn s rec code)
 
 -- `draw_char`: 6, 15, 9, 10, 11, then 13, 14, 16
 unfoldable pub drawChar : List ℕ → Record → ℕ → ℕ → Place → CharDrawn

@@ -7,7 +7,7 @@ use lib.ListN.{length}
 use lib.Dec.{eqb, ltb}
 use Rattle.reads.specs.Num.{u32At}
 use Rattle.reads.specs.Said.{elem, NumberedBy}
-use Rattle.reads.proofs.Numbers.{has-values, has-number, whichever, elem-more, wider, one-more}
+use Rattle.reads.proofs.Numbers.{has-values, has-number, whichever, elem-more, wider}
 use Rattle.reads.proofs.Tests.{either}
 use Rattle.tables.specs.Values.{saidTable}
 use Rattle.tables.specs.declared.TableRead.{TableRead}
@@ -21,7 +21,7 @@ use Rattle.load.specs.declared.Loaded.{Loaded}
 abbrev ofTables : List ℕ
 ofTables = 6 ∷ 7 ∷ []
 
-abbrev ofLoading : List ℕ
+abbrev pub ofLoading : List ℕ
 ofLoading = 1 ∷ 2 ∷ 3 ∷ 4 ∷ 5 ∷ 6 ∷ 7 ∷ 8 ∷ []
 
 table-numbered : (s : List ℕ) (kind format at end : ℕ) → NumberedBy ofTables (saidTable (tableAt s kind format at end))
@@ -69,7 +69,7 @@ entries-numbered s zero k g = whichever saidLoaded (allSix (g .kinds)) has-value
 entries-numbered s (suc n) k g =
     after-entry (entryAt s k g) k (λ h. entriesFrom s n (k + 1) h) (entry-numbered s k g) (λ h. entries-numbered s n (k + 1) h)
 
-pub load-pcf-refusals : (s : List ℕ) → NumberedBy (1 ∷ 2 ∷ 3 ∷ 4 ∷ 5 ∷ 6 ∷ 7 ∷ 8 ∷ []) (saidLoaded (loaded s))
+pub load-pcf-refusals : (s : List ℕ) → NumberedBy ofLoading (saidLoaded (loaded s))
 unfolding loaded
 load-pcf-refusals s =
     let count = u32At false s 4 in

@@ -15,7 +15,7 @@ use Rattle.lookup.specs.CodeRange.{codeRange}
 use Rattle.lookup.specs.declared.Slot.{Slot}
 
 module _ (c : EncodingData) (code : ℕ) where
-  abbrev Outside : Type 0
+  abbrev pub Outside : Type 0
   Outside = (code < codeRange c .low .0) ⊎ (codeRange c .end .0 ≤ code)
 
   outside-slot : Outside → slotOf c code ≡ Slot.Nothing

@@ -1,2 +1,3 @@
 pub mod RecordInside
 pub mod Measuring
+pub mod Refusals

@@ -2,7 +2,7 @@
 use Prim.Native.Nat.{ℕ, _+_, _-_, _*_, _≤_, _<_, _^_}
 use mathlib.Core.Path.{_≡_, sym, _∙_}
 use mathlib.Core.Bool.{Bool, true, false}
-use mathlib.Core.List.{List, []}
+use mathlib.Core.List.{List}
 use native.Mathlib.Omega.{arith}
 use lib.ListN.{length}
 use mir.Syntax.{w64}
@@ -14,7 +14,7 @@ use Rattle.reads.specs.declared.Refusal.{Refusal}
 use Rattle.tables.specs.Fits.{inside}
 use Rattle.tables.specs.declared.GlyphNameData.{GlyphNameData}
 use Rattle.tables.specs.declared.Record.{Record}
-use Rattle.names.specs.Names.{nameOf, getName, nameBytes, nameAt}
+use Rattle.names.specs.Names.{nameOf, getName, spanOf, nameBytes, nameAt}
 use Rattle.names.specs.Strings.{zeroFrom, stringAt, partOf, partAt, movedBy}
 use Rattle.names.specs.declared.Named.{Named}
 use Rattle.names.specs.declared.Span.{Span}
@@ -57,17 +57,19 @@ pub name-there : (s : List ℕ) (n : GlyphNameData) (g from : ℕ) (r : Named)
 unfolding nameOf
 name-there s n g from r h from-is is = rw (lt-leb _ _ h, ← from-is) is
 
-module _ (s : List ℕ) (rec : Record) (g : ℕ) (named : Named) (named-is : named ≡ getName s rec g) where
-  pub name-found : (p : Span) (r : List ℕ) → named ≡ Named.Name p → r ≡ partOf s p → r ≡ nameBytes s (getName s rec g)
-  name-found p r e is = rw (← named-is, e) is
+-- the part of a name's span, or of the empty one
+module _ (s : List ℕ) (rec : Record) (g : ℕ) (named : Named) (span : Span) (named-is : named ≡ getName s rec g) (span-is : spanOf named ≡ span) where
+  name-span : spanOf (getName s rec g) ≡ span
+  name-span = rw (← named-is) span-is
 
-  pub name-stands : (p : Span) (at here : ℕ × ℕ) → named ≡ Named.Name p → here ≡ movedBy at (partAt s p) → here ≡ movedBy at (nameAt s (getName s rec g))
-  name-stands p at here e is = rw (← named-is, e) is
+  pub name-part : (r : List ℕ) → r ≡ partOf s span → r ≡ nameBytes s (getName s rec g)
+  name-part r is = rw name-span is
 
-  pub name-empty : (r : Refusal) → named ≡ Named.Refused r → [] ≡ nameBytes s (getName s rec g)
-  name-empty r e = rw (← named-is, e)
+  pub name-stands : (at here : ℕ × ℕ) → here ≡ movedBy at (partAt s span) → here ≡ movedBy at (nameAt s (getName s rec g))
+  name-stands at here is = rw name-span is
 
-  pub empty-stands : (r : Refusal) (at : ℕ × ℕ) → named ≡ Named.Refused r → at ≡ movedBy at (nameAt s (getName s rec g))
-  empty-stands r at e =
-      let not-moved : at .1 ≡ 0 + at .1 = omega arith in
-      rw (← named-is, e) (λ i. (at .0, not-moved i))
+pub span-found : (named : Named) (p : Span) → named ≡ Named.Name p → spanOf named ≡ p
+span-found named p e = rw e
+
+pub span-empty : (named : Named) (r : Refusal) → named ≡ Named.Refused r → spanOf named ≡ record { start = 0; len = 0 }
+span-empty named r e = rw e

@@ -12,6 +12,7 @@ use Rattle.tables.specs.declared.GlyphNameData.{GlyphNameData}
 use Rattle.tables.specs.declared.Record.{Record}
 use Rattle.names.specs.Strings.{stringAt, partOf, partAt}
 use Rattle.names.specs.declared.Named.{Named}
+use Rattle.names.specs.declared.Span.{Span}
 
 -- glyph g's name, or 17, 18
 unfoldable pub nameOf : List ℕ → GlyphNameData → ℕ → Named
@@ -23,15 +24,17 @@ nameOf s n g =
 unfoldable pub getName : List ℕ → Record → ℕ → Named
 getName s rec g = tested Named.Refused s rec (nameOf s (rec .names) g)
 
--- the name itself, a part of the font's own bytes; empty on a refusal
-abbrev pub nameBytes : List ℕ → Named → List ℕ
-nameBytes s (Named.Name p) = partOf s p
-nameBytes s (Named.Refused r) = []
+-- a name's span; on a refusal the empty one at the first byte
+abbrev pub spanOf : Named → Span
+spanOf (Named.Name p) = p
+spanOf (Named.Refused r) = record { start = 0; len = 0 }
 
--- where it stands among them, counted from the first; the empty part of a refusal stands at the first
+-- the name itself, "the part of the font's own bytes", and where it stands among them
+abbrev pub nameBytes : List ℕ → Named → List ℕ
+nameBytes s n = partOf s (spanOf n)
+
 abbrev pub nameAt : List ℕ → Named → ℕ
-nameAt s (Named.Name p) = partAt s p
-nameAt s (Named.Refused r) = 0
+nameAt s n = partAt s (spanOf n)
 
 abbrev pub saidNamed : Named → Said
 saidNamed (Named.Name p) = says (pos (p .start) ∷ pos (p .len) ∷ [])

@@ -72,8 +72,9 @@ pub fn name_bytes(bytes: &[u8], rec: Record, glyph: GlyphIndex) -> &[u8]
     ensures { λ r. ⌜ now r ≡ nameBytes (now (bytes .entry)) (getName (now (bytes .entry)) rec (glyph .0)) ⌝ }
     ensures { λ r. ⌜ r .ptr ≡ movedBy (bytes .entry .ptr) (nameAt (now (bytes .entry)) (getName (now (bytes .entry)) rec (glyph .0))) ⌝ }
 {
-    match get_name(bytes, rec, glyph) {
-        Named::Name(p) => part_of(bytes, p),
-        Named::Refused(_) => &bytes[..0],
+    let named = get_name(bytes, rec, glyph);
+    match named {
+        Named::Name(span) => part_of(bytes, span),
+        Named::Refused(_) => part_of(bytes, Span { start: 0, len: 0 }),
     }
 }

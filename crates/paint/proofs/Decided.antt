@@ -1,7 +1,7 @@
 -- What is known once a row and a column are to be drawn: the place lies in the buffer, and a block has pixels.
 use Prim.Native.Nat.{ℕ, _*_, _≤_, _<_, _^_}
 use mathlib.Core.Path.{_≡_}
-use mathlib.Core.Bool.{false, true, _||_}
+use mathlib.Core.Bool.{false, _||_}
 use native.Mathlib.Omega.{arith}
 use lib.Dec.{eqb, leb}
 use mir.Syntax.{w64}

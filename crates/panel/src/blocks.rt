@@ -4,7 +4,7 @@ use crate::lines::pixel_at;
 use crate::lines::put_one;
 use crate::lines::with_room;
 ghost use mathlib.Core.Path.{_≡_};
-ghost use Prim.Native.Nat.{_+_, _≤_, _<_};
+ghost use Prim.Native.Nat.{_+_, _≤_};
 ghost use lib.ListN.{length};
 ghost use lib.Seq.{sets};
 ghost use Rattle.panel.specs.Blocks.{mark, block};

@@ -2,7 +2,6 @@
 use Prim.Native.Nat.{ℕ}
 use mathlib.Core.Path.{refl}
 use mathlib.Core.List.{List, [], _∷_}
-use lib.Dec.{leb}
 use Rattle.reads.specs.Said.{NumberedBy}
 use Rattle.reads.specs.declared.GlyphIndex.{GlyphIndex}
 use Rattle.reads.proofs.Numbers.{has-values, has-number, whichever, wider, one-more}
@@ -14,12 +13,8 @@ use Rattle.lookup.specs.declared.Found.{Found}
 use Rattle.lookup.proofs.Refusals.{glyph-of-refusals}
 use Rattle.metrics.specs.Measure.{metricsOf, saidMeasured}
 use Rattle.metrics.specs.declared.Measured.{Measured}
+use Rattle.metrics.proofs.Refusals.{metrics-of-refusals}
 use Rattle.place.specs.Info.{placeable, boxed, withMetrics, infoOf, withGlyph, prepared, saidPrepared}
-use Rattle.place.specs.declared.Prepared.{Prepared}
-
-pub metrics-of-refusals : (s : List ℕ) (m : MetricsData) (g : ℕ) → NumberedBy (10 ∷ []) (saidMeasured (metricsOf s m g))
-unfolding metricsOf
-metrics-of-refusals s m g = whichever saidMeasured (leb (m .count) g) (has-number refl) has-values
 
 module _ (s : List ℕ) (metrics : MetricsData) (bounds : MetricsUnpacked) where
   pub info-of-refusals : (g : GlyphIndex) → NumberedBy (10 ∷ 11 ∷ []) (saidPrepared (infoOf s metrics bounds g))

@@ -55,9 +55,16 @@ withGlyph (Found.Refused r) rest = Prepared.Refused r
 unfoldable pub prepared : List ℕ → EncodingData → MetricsData → MetricsUnpacked → ℕ → Prepared
 prepared s codes metrics bounds code = withGlyph (glyphOf s codes code) (λ g. infoOf s metrics bounds g)
 
+-- the same by a record's tables and bounds
+abbrev pub infoIn : List ℕ → Record → GlyphIndex → Prepared
+infoIn s rec g = infoOf s (rec .metrics) (boundsOf rec) g
+
+abbrev pub preparedIn : List ℕ → Record → ℕ → Prepared
+preparedIn s rec code = prepared s (rec .codes) (rec .metrics) (boundsOf rec) code
+
 -- `prep_char`: 6, 9, 10, 11
 unfoldable pub prepChar : List ℕ → Record → ℕ → Prepared
-prepChar s rec code = tested Prepared.Refused s rec (prepared s (rec .codes) (rec .metrics) (boundsOf rec) code)
+prepChar s rec code = tested Prepared.Refused s rec (preparedIn s rec code)
 
 abbrev pub infoValues : GlyphInfo → List ℤ
 infoValues i = pos (i .glyph .0) ∷ pos (i .width) ∷ pos (i .height) ∷ pos (i .«pad_top») ∷ pos (i .«pad_left») ∷ []

@@ -1,10 +1,9 @@
 -- The numbers of each call that draws or unpacks a glyph or a text or steps through one, in the same way.
-use mathlib.Core.Path.{_≡_, refl, ap}
+use mathlib.Core.Path.{_≡_, refl}
 use mathlib.Core.Bool.{cond, _&&_}
 use mathlib.Core.List.{List, [], _∷_, _++_}
 use Prim.Native.Nat.{ℕ, _+_}
-use lib.ListN.{length}
-use lib.Dec.{eqb, leb}
+use lib.Dec.{eqb}
 use Rattle.reads.specs.Said.{Said, refusal, NumberedBy}
 use Rattle.reads.proofs.Numbers.{has-values, has-number, whichever, wider, one-more}
 use Rattle.tables.specs.Fits.{ladder, permitted}
@@ -22,18 +21,15 @@ use Rattle.bitmaps.specs.Unpack.{unscaled, wholeColumns, unpackedAt, saidUnpack
 use Rattle.bitmaps.specs.declared.Drawn.{Drawn}
 use Rattle.bitmaps.specs.declared.Unpacked.{Unpacked}
 use Rattle.place.specs.Bounds.{boundsOf, boundsHold}
-use Rattle.place.specs.Info.{infoOf, prepared, saidPrepared}
+use Rattle.place.specs.Info.{saidPrepared, infoIn, preparedIn}
 use Rattle.place.specs.declared.GlyphInfo.{GlyphInfo}
 use Rattle.place.specs.declared.Prepared.{Prepared}
 use Rattle.glyphs.specs.Glyph.{placeOf, okInfo, glyphDrawn, glyphReady, drawGlyph}
 use Rattle.glyphs.specs.Char.{withInfo, charOf, charReady, drawChar, saidChar}
 use Rattle.glyphs.specs.Unpack.{glyphUnpacked, unpackGlyph}
-use Rattle.utf8.specs.Step.{stepAt, saidStep}
 use Rattle.utf8.specs.Decode.{Char, decoded, charsOf, checkedText}
 use Rattle.utf8.specs.declared.Checked.{Checked}
-use Rattle.utf8.specs.declared.Step.{Step}
 use Rattle.utf8.proofs.Accepts.{refused-text}
-use Rattle.utf8.proofs.Characters.{step-refused}
 use Rattle.text.specs.Walk.{origin, placeInfo, placeFound, placed, placedDrawn, penAfter}
 use Rattle.text.specs.Text.{afterChar, textFrom, readyText, ready, whenReady, drawString, saidText}
 use Rattle.text.specs.declared.Layout.{Layout}
@@ -78,7 +74,7 @@ module _ (s : List ℕ) (rec : Record) (lay : Layout) (len : ℕ) where
   placed-refusals code pen =
       whichever saidPlaced (eqb code 13) has-values (whichever saidPlaced (eqb code 10) has-values (by (glyphOf s (rec .codes) code))) where
         by : (x : Found) → NumberedBy (ofPlacing ++ ofDrawing) (saidPlaced (placeFound s rec lay pen x))
-        by (Found.Glyph g) = place-info pen (infoOf s (rec .metrics) (boundsOf rec) g) (info-of-refusals s (rec .metrics) (boundsOf rec) g)
+        by (Found.Glyph g) = place-info pen (infoIn s rec g) (info-of-refusals s (rec .metrics) (boundsOf rec) g)
         by (Found.Refused r) = has-values
 
   after-char : (x : Drawn) (byte : ℕ) (rest : ℕ → TextDrawn) → NumberedBy (ofPlacing ++ ofDrawing) (saidDrawn x)
@@ -156,8 +152,8 @@ module _ (s : List ℕ) (rec : Record) where
     pub draw-char-refusals : Refusals s rec (6 ∷ 15 ∷ 9 ∷ (ofPlacing ++ ofDrawing)) (saidChar (drawChar s rec code len at))
     unfolding drawChar charReady
     draw-char-refusals =
-        guarded-refusals s rec saidWith Prepared.Refused (λ r. refl) (okPlace at) (prepared s (rec .codes) (rec .metrics) (boundsOf rec) code) refl
-        (λ fits. placed-char (prepared s (rec .codes) (rec .metrics) (boundsOf rec) code) (char-info-refusals s (rec .metrics) (boundsOf rec) (rec .codes) code))
+        guarded-refusals s rec saidWith Prepared.Refused (λ r. refl) (okPlace at) (preparedIn s rec code) refl
+        (λ fits. placed-char (preparedIn s rec code) (char-info-refusals s (rec .metrics) (boundsOf rec) (rec .codes) code))
 
   module _ (text : List ℕ) (len : ℕ) (lay : Layout) where
     -- what the tests before the first character say, with the rest
@@ -174,10 +170,3 @@ module _ (s : List ℕ) (rec : Record) where
     draw-string-refusals =
         guarded-refusals s rec saidReady Ready.Refused (λ r. refl) (okPlace (placeAt (lay .start) (lay .stride) (lay .scale)))
         (readyText rec lay (checkedText text)) refl (λ fits. checked-refusals (checkedText text) refl)
-
-pub step-at-refusals : (s : List ℕ) (i : ℕ) → NumberedBy (19 ∷ []) (saidStep (stepAt s i))
-step-at-refusals s i = by (stepAt s i) refl where
-  by : (x : Step) → stepAt s i ≡ x → NumberedBy (19 ∷ []) (saidStep x)
-  by (Step.Char c next) e = has-values
-  by Step.End e = has-values
-  by (Step.Refused r) e = has-number (rw (step-refused s i r e .0) refl)

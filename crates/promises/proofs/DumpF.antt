@@ -25,6 +25,7 @@ use Rattle.vet.specs.First.{firstFault}
 use Rattle.vet.specs.Vet.{propFault, boxFault, codeFault}
 use Rattle.hexline.specs.Lines.{linesOf, digitOf, allDigits, goodLine, bytesFrom, hexRead, pairs, allPairs, hexBytes}
 use Rattle.frames.specs.Hex.{hexDigit, hexAll, field}
+use Rattle.frames.specs.Whole.{wholeBox, wholeGlyph}
 use Rattle.frames.specs.Frames.{rowFrom, rowsFrom, frame, frameOf, framesFrom}
 use Rattle.frames.specs.Dump.{dumped}
 use Rattle.frames.proofs.DumpRange.{readInRange, dump-in-range}
@@ -36,7 +37,7 @@ in-range : readInRange (hexBytes (typedLines linesF)) (hexRead (typedLines lines
 unfolding linesF framesF typed typedLines hexBytes linesOf digitOf goodLine bytesFrom hexRead digits numAt signed
     less128 propertiesTable propertiesAt acceleratorsTable acceleratorsAt wideAt narrowAt metricsTable metricsAt
     bitmapsTable bitmapsAt codesTable codesAt namesTable namesAt finished tableAt entryOf entryAt entriesFrom loaded
-    slotOf glyphOf metricsOf zeroFrom stringAt nameOf propOf some byteOf bytesPast rowsShort boundsHold placeable infoOf prepared
+    slotOf glyphOf metricsOf zeroFrom stringAt nameOf propOf some byteOf bytesPast rowsShort boundsHold placeable infoOf prepared wholeBox wholeGlyph
     firstFault codeFault hexDigit field frame frameOf framesFrom offsetOf propFault boxFault
     allDigits pairs allPairs hexAll bitAt packed rowByte rowFrom rowsFrom codeRange
 in-range = refl

@@ -46,6 +46,7 @@ use Rattle.thalluskin.specs.Placing.{extentAnswer, infoAnswer}
 use Rattle.thalluskin.specs.Drawing.{rowsAnswer, charAnswer, unpackAnswer}
 use Rattle.thalluskin.specs.Texts.{layout, textAnswer, stepAnswer}
 use Rattle.load.proofs.Refusals.{load-pcf-refusals}
+use Rattle.utf8.proofs.Refusals.{step-at-refusals}
 use Rattle.vet.proofs.Refusals.{vet-refusals}
 use Rattle.promises.specs.Refusals.{Answers}
 use Rattle.promises.specs.Exported.{readOff, saysFont, saysProperty, saysGlyph, saysName, saysMetrics, saysExtent, saysInfo, saysRows, saysChar, saysUnpack, saysText, saysStep}
@@ -63,7 +64,6 @@ use Rattle.promises.proofs.DrawingRefusals.{
   draw-char-refusals,
   unpack-glyph-refusals,
   draw-string-refusals,
-  step-at-refusals,
 }
 
 -- beside a refusal's number no value is read

@@ -20,7 +20,7 @@ use Rattle.bitmaps.specs.declared.Drawn.{Drawn}
 use Rattle.bitmaps.proofs.CutRule.{drawn-within}
 use Rattle.bitmaps.proofs.RowsInside.{rows-inside, inside-rows}
 use Rattle.place.specs.Bounds.{boundsOf}
-use Rattle.place.specs.Info.{boxOf, infoOf}
+use Rattle.place.specs.Info.{boxOf, infoIn}
 use Rattle.place.specs.declared.GlyphInfo.{GlyphInfo}
 use Rattle.place.specs.declared.Prepared.{Prepared}
 use Rattle.glyphs.specs.Glyph.{placeOf, glyphDrawn}
@@ -70,7 +70,7 @@ module _ (s : List ℕ) (rec : Record) (lay : Layout) (len : ℕ) where
           fewer-rows s (rec .bitmaps) (g .0) (i .width) n (i .height) (drawn-within len p (i .height)) (u .has-rows),
         ) refl
 
-    glyph-only : (pen : Pen) (g : GlyphIndex) → Usable s rec g → Only16 (placeInfo rec lay pen (infoOf s (rec .metrics) (boundsOf rec) g))
+    glyph-only : (pen : Pen) (g : GlyphIndex) → Usable s rec g → Only16 (placeInfo rec lay pen (infoIn s rec g))
     glyph-only pen g u =
         let i = boxOf g (glyphMetrics s (rec .metrics) (g .0)) (boundsOf rec .ascent) in
         subst (λ (q : Prepared). Only16 (placeInfo rec lay pen q)) (sym (usable-info s rec g u)) (usable-drawn (wrapped rec lay i pen) g u)

@@ -1,20 +1,16 @@
 -- The numbers of each call with a record that reads: its answer has values, or its number stands in the documents' column "Refusals, in
 -- order". 6 is that of the record's test, and the others are those past it, which the crates below say of their own.
-use mathlib.Core.Path.{_≡_, refl}
-use mathlib.Core.Bool.{true}
+use mathlib.Core.Path.{refl}
 use mathlib.Core.List.{List, [], _∷_}
 use Prim.Native.Nat.{ℕ}
 use lib.ListN.{length}
-use lib.Dec.{ltb}
-use Rattle.reads.specs.Said.{NumberedBy}
-use Rattle.reads.proofs.Numbers.{has-values, has-number, whichever, wider}
-use Rattle.tables.specs.Fits.{recordFits}
+use Rattle.reads.proofs.Numbers.{has-values, has-number, whichever}
 use Rattle.tables.specs.declared.Record.{Record}
 use Rattle.tables.proofs.RecordParts.{prop-strings, name-strings}
 use Rattle.lookup.specs.Lookup.{getGlyph, saidFound}
 use Rattle.lookup.specs.declared.Found.{Found}
 use Rattle.lookup.proofs.Refusals.{glyph-of-refusals}
-use Rattle.names.specs.Names.{nameOf, getName, saidNamed}
+use Rattle.names.specs.Names.{getName, saidNamed}
 use Rattle.names.specs.declared.Named.{Named}
 use Rattle.names.proofs.Refusals.{string-in-data, name-by-string}
 use Rattle.props.specs.Props.{propAt, saidProp}
@@ -23,28 +19,17 @@ use Rattle.props.proofs.Refusals.{prop-in-data}
 use Rattle.metrics.specs.Measure.{getMetrics, getAccelerators, saidMeasured, saidAccelerated}
 use Rattle.metrics.specs.declared.Accelerated.{Accelerated}
 use Rattle.metrics.specs.declared.Measured.{Measured}
-use Rattle.bitmaps.specs.Picture.{noBitmap, unreadable, rowsShort}
+use Rattle.metrics.proofs.Refusals.{metrics-of-refusals}
 use Rattle.place.specs.Bounds.{boundsOf, boundsHold, boundsSized, dimensions, saidSized}
-use Rattle.place.specs.Info.{prepared, prepChar, saidPrepared}
-use Rattle.place.specs.declared.GlyphInfo.{GlyphInfo}
+use Rattle.place.specs.Info.{prepChar, saidPrepared}
 use Rattle.place.specs.declared.Sized.{Sized}
 use Rattle.place.specs.declared.Prepared.{Prepared}
-use Rattle.place.proofs.Refusals.{metrics-of-refusals, char-info-refusals}
-use Rattle.frames.specs.Frames.{frame}
-use Rattle.frames.specs.Framed.{whenNamed, wholeBox, whenPlaced, framed}
-use Rattle.frames.specs.Put.{lineInto, refusedLine, framedInto, frameInto, refusedInto, saidPrinted}
+use Rattle.place.proofs.Refusals.{char-info-refusals}
+use Rattle.frames.specs.Put.{frameInto, saidPrinted}
 use Rattle.frames.specs.declared.Printed.{Printed}
-use Rattle.promises.specs.Refusals.{ofPlacing, ofFraming, Refusals}
+use Rattle.frames.proofs.Refusals.{ofFrames, frame-numbered}
+use Rattle.promises.specs.Refusals.{ofPlacing, Refusals}
 use Rattle.promises.proofs.RecordTest.{tested-refusals}
-
--- a line of the dump
-
-line-refusals : (line : List ℕ) (room : ℕ) → NumberedBy (15 ∷ []) (saidPrinted (lineInto line room))
-line-refusals line room = whichever saidPrinted (ltb room (length line)) (has-number refl) has-values
-
-pub put-refused-refusals : (n room : ℕ) → NumberedBy (15 ∷ []) (saidPrinted (refusedInto n room))
-unfolding refusedInto
-put-refused-refusals n room = whichever saidPrinted (ltb 99 n) (has-number refl) (line-refusals (refusedLine n) room)
 
 -- the calls with a record
 
@@ -81,32 +66,6 @@ module _ (s : List ℕ) (rec : Record) where
   unfolding prepChar
   prep-char-refusals code = tested-refusals s rec saidPrepared Prepared.Refused (λ r. refl) _ refl (λ fits. char-info-refusals s (rec .metrics) (boundsOf rec) (rec .codes) code)
 
-  -- of what a frame is made of, written into so much room
-  framed-refusals : (code room : ℕ) (x : Prepared) → NumberedBy ofFraming (saidPrepared x) → NumberedBy ofFraming (saidPrinted (framedInto s rec code room x))
-  framed-refusals code room (Prepared.Info i) h = wider refl (line-refusals (frame s rec code i) room)
-  framed-refusals code room (Prepared.Refused r) h = h
-
-  module _ (fits : recordFits (length s) rec ≡ true) where
-    named-refusals : (x : Named) (i : GlyphInfo) → NumberedBy (17 ∷ 18 ∷ []) (saidNamed x) → NumberedBy ofFraming (saidPrepared (whenNamed x (Prepared.Info i)))
-    named-refusals (Named.Name p) i h = has-values
-    named-refusals (Named.Refused r) i h = wider refl h
-
-    whole-refusals : (i : GlyphInfo) → NumberedBy ofFraming (saidPrepared (wholeBox s rec i))
-    unfolding wholeBox
-    whole-refusals i =
-        let b = rec .bitmaps in
-        whichever saidPrepared (noBitmap b (i .glyph .0)) (has-number refl)
-        (whichever saidPrepared (unreadable b) (has-number refl)
-        (whichever saidPrepared (rowsShort s b (i .glyph .0) (i .width) (i .height)) (has-number refl)
-        (named-refusals (nameOf s (rec .names) (i .glyph .0)) i (name-by-string s (rec .names) (i .glyph .0) (string-in-data s _ _ _ (name-strings (length s) rec fits))))))
-
-    placed-refusals : (x : Prepared) → NumberedBy (9 ∷ 10 ∷ 11 ∷ []) (saidPrepared x) → NumberedBy ofFraming (saidPrepared (whenPlaced s rec x))
-    placed-refusals (Prepared.Info i) h = whole-refusals i
-    placed-refusals (Prepared.Refused r) h = wider refl h
-
-  pub put-frame-refusals : (code room : ℕ) → Refusals s rec (6 ∷ ofFraming) (saidPrinted (frameInto s rec code room))
-  unfolding frameInto framed
-  put-frame-refusals code room =
-      tested-refusals s rec saidPrinted Printed.Refused (λ r. refl) _ refl (λ fits.
-      framed-refusals code room (framed s rec code)
-      (placed-refusals fits (prepared s (rec .codes) (rec .metrics) (boundsOf rec) code) (char-info-refusals s (rec .metrics) (boundsOf rec) (rec .codes) code)))
+  pub put-frame-refusals : (code room : ℕ) → Refusals s rec (6 ∷ ofFrames) (saidPrinted (frameInto s rec code room))
+  unfolding frameInto
+  put-frame-refusals code room = tested-refusals s rec saidPrinted Printed.Refused (λ r. refl) _ refl (λ fits. frame-numbered s rec fits code room)

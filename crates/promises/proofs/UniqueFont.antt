@@ -20,6 +20,7 @@ use Rattle.font.proofs.string_through.Kinds as string-through-kinds
 use Rattle.font.proofs.string_through.Reads as string-through-reads
 use Rattle.font.proofs.open as view-open
 use Rattle.font.proofs.Font.get_glyph as view-get-glyph
+use Rattle.font.proofs.Font.get_name as view-get-name
 use Rattle.font.proofs.Font.name_bytes as view-name-bytes
 use Rattle.font.proofs.Font.dimensions as view-dimensions
 use Rattle.font.proofs.Font.prep_char as view-prep-char
@@ -62,6 +63,9 @@ module _ {M : Type 1} (𝓤 : URA M) (H : Heap 𝓤) (A : Atoms 𝓤) (mem : Mem
 
   pub view-get-glyph-unique : FixesSaid 𝓤 view-get-glyph.ended (view-get-glyph.clauses 𝓤 H A mem run) (λ κs r₁ r₂ x₁ x₂. r₁ ≡ r₂)
   view-get-glyph-unique κs a g₁ g₂ r₁ r₂ x₁ x₂ = from-facts 𝓤 (λ p q. p ∙ sym q)
+
+  pub view-get-name-unique : FixesSaid 𝓤 view-get-name.ended (view-get-name.clauses 𝓤 H A mem run) (λ κs r₁ r₂ x₁ x₂. r₁ ≡ r₂)
+  view-get-name-unique κs a g₁ g₂ r₁ r₂ x₁ x₂ = from-facts 𝓤 (λ p q. p ∙ sym q)
 
   pub view-dimensions-unique : FixesSaid 𝓤 view-dimensions.ended (view-dimensions.clauses 𝓤 H A mem run) (λ κs r₁ r₂ x₁ x₂. r₁ ≡ r₂)
   view-dimensions-unique κs a g₁ g₂ r₁ r₂ x₁ x₂ = from-facts 𝓤 (λ p q. p ∙ sym q)

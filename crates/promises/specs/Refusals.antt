@@ -1,7 +1,7 @@
 -- The numbers that a call refuses with, the documents' column "Refusals, in order".
 use mathlib.Core.Path.{_≡_}
 use mathlib.Core.Bool.{false}
-use mathlib.Core.List.{List, [], _∷_, _++_}
+use mathlib.Core.List.{List, [], _∷_}
 use mathlib.Core.Logic.{_↔_}
 use Prim.Native.Nat.{ℕ}
 use lib.ListN.{length}
@@ -16,10 +16,6 @@ ofPlacing = 10 ∷ 11 ∷ []
 
 abbrev pub ofDrawing : List ℕ
 ofDrawing = 13 ∷ 14 ∷ 16 ∷ []
-
--- of a frame of the dump
-abbrev pub ofFraming : List ℕ
-ofFraming = 9 ∷ 10 ∷ 11 ∷ 12 ∷ 13 ∷ 14 ∷ 17 ∷ 18 ∷ 15 ∷ []
 
 -- What a call with a record and the bytes `s` answers: values or one of these numbers. And 6 stands for "a record with a region outside
 -- the bytes given, a code minimum above its maximum, a code region without room for all its entries, or a row pad other than 1, 2, 4, 8",

@@ -16,15 +16,15 @@ use Rattle.promises.specs.Refusing.{Refuses}
 
 module _ (s : List ℕ) where
   -- number, place and values of the answer
-  abbrev pub said : Said
-  said = saidVetted (vetted s)
+  abbrev pub vettingSaid : Said
+  vettingSaid = saidVetted (vetted s)
 
   pub record VettingSays : Type 0 where
     -- the number is 0 exactly when the font passes, with some record
-    pub passes-exactly : (said .number ≡ 0) ↔ ((rec : Record) × Passes s rec)
+    pub passes-exactly : (vettingSaid .number ≡ 0) ↔ ((rec : Record) × Passes s rec)
     -- and then the values are that record's
-    pub passes-says : (rec : Record) → Passes s rec → said ≡ says (recordValues rec)
+    pub passes-says : (rec : Record) → Passes s rec → vettingSaid ≡ says (recordValues rec)
     -- a font that loads is refused exactly for the first condition that fails, and with its place
-    pub refused-exactly : (rec : Record) → loaded s ≡ Loaded.Font rec → (n place : ℕ) → (said ≡ refuses (refusal n place)) ↔ Refuses s rec n place
+    pub refused-exactly : (rec : Record) → loaded s ≡ Loaded.Font rec → (n place : ℕ) → (vettingSaid ≡ refuses (refusal n place)) ↔ Refuses s rec n place
     -- a font that does not load is refused as loading refuses it
-    pub refused-loading : (r : Refusal) → loaded s ≡ Loaded.Refused r → said ≡ refuses r
+    pub refused-loading : (r : Refusal) → loaded s ≡ Loaded.Refused r → vettingSaid ≡ refuses r

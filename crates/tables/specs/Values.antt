@@ -1,5 +1,5 @@
 -- The record's numbers as a list, in the order of its fields: the values of an answer that holds a record or a part of one; and what
--- this crate's own answers say.
+-- was read of a table.
 use mathlib.Core.List.{List, [], _∷_, _++_}
 use lib.IntN.{ℤ, pos}
 use Rattle.reads.specs.Said.{Said, refusal, says, refuses, bit}
@@ -10,7 +10,6 @@ use Rattle.tables.specs.declared.MetricsData.{MetricsData}
 use Rattle.tables.specs.declared.BitmapData.{BitmapData}
 use Rattle.tables.specs.declared.EncodingData.{EncodingData}
 use Rattle.tables.specs.declared.GlyphNameData.{GlyphNameData}
-use Rattle.tables.specs.declared.Permit.{Permit}
 use Rattle.tables.specs.declared.Record.{Record}
 use Rattle.tables.specs.declared.TableRead.{TableRead}
 
@@ -58,8 +57,3 @@ saidTable (TableRead.Codes c) = says (pos 32 ∷ codesValues c)
 saidTable (TableRead.Names n) = says (pos 128 ∷ namesValues n)
 saidTable TableRead.Other = says (pos 0 ∷ [])
 saidTable (TableRead.Refused n) = refuses (refusal n 0)
-
--- what the tests before a drawing say: nothing, or 6, 15
-abbrev pub saidPermit : Permit → Said
-saidPermit Permit.Given = says []
-saidPermit (Permit.Refused r) = refuses r

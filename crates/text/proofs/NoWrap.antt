@@ -24,7 +24,7 @@ use Rattle.metrics.specs.declared.Measured.{Measured}
 use Rattle.bitmaps.specs.Paint.{painted}
 use Rattle.bitmaps.proofs.UnitBits.{Octets}
 use Rattle.place.specs.Bounds.{boundsOf}
-use Rattle.place.specs.Info.{placeable, boxed, withMetrics, infoOf}
+use Rattle.place.specs.Info.{placeable, boxed, withMetrics, infoOf, infoIn}
 use Rattle.place.specs.declared.GlyphInfo.{GlyphInfo}
 use Rattle.place.specs.declared.Prepared.{Prepared}
 use Rattle.utf8.specs.Decode.{Char, decoded, charsOf, checkedText}
@@ -75,7 +75,7 @@ module _ (s : List ℕ) (octets : Octets s) (rec : Record) where
     by false = wide-small (u16At (m .big) s (m .records + 12 * g + 4))
 
   module _ (lay : Layout) (pen : Pen) where
-    info-narrow : (g : GlyphIndex) → Narrow (placeInfo rec lay pen (infoOf s (rec .metrics) (boundsOf rec) g))
+    info-narrow : (g : GlyphIndex) → Narrow (placeInfo rec lay pen (infoIn s rec g))
     unfolding infoOf metricsOf
     info-narrow g =
         let m = glyphMetrics s (rec .metrics) (g .0) in
@@ -159,7 +159,7 @@ module _ (s : List ℕ) (octets : Octets s) (rec : Record) where
         info-same (Prepared.Refused r) h = refl
 
         found-same : (x : Found) → placeFound s rec lay pen x ≡ placeFound s rec free pen x
-        found-same (Found.Glyph g) = info-same (infoOf s (rec .metrics) (boundsOf rec) g) (info-narrow lay pen g)
+        found-same (Found.Glyph g) = info-same (infoIn s rec g) (info-narrow lay pen g)
         found-same (Found.Refused r) = refl
 
         placed-same : (code : ℕ) → placed s rec lay code pen ≡ placed s rec free code pen

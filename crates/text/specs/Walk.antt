@@ -13,7 +13,7 @@ use Rattle.lookup.specs.declared.Found.{Found}
 use Rattle.bitmaps.specs.Place.{Place, placeAt}
 use Rattle.bitmaps.specs.declared.Drawn.{Drawn}
 use Rattle.place.specs.Bounds.{heightOf, boundsOf}
-use Rattle.place.specs.Info.{infoOf}
+use Rattle.place.specs.Info.{infoIn}
 use Rattle.glyphs.specs.Glyph.{nothingDrawn, glyphDrawn, inInfo}
 use Rattle.place.specs.declared.GlyphInfo.{GlyphInfo}
 use Rattle.place.specs.declared.Prepared.{Prepared}
@@ -61,7 +61,7 @@ placeInfo rec lay pen (Prepared.Refused r) = Placed.Refused (r .number)
 
 -- "a code without glyph is skipped"
 abbrev pub placeFound : List ℕ → Record → Layout → Pen → Found → Placed
-placeFound s rec lay pen (Found.Glyph g) = placeInfo rec lay pen (infoOf s (rec .metrics) (boundsOf rec) g)
+placeFound s rec lay pen (Found.Glyph g) = placeInfo rec lay pen (infoIn s rec g)
 placeFound s rec lay pen (Found.Refused r) = Placed.Skip pen
 
 -- what a character does with the pen here

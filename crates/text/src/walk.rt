@@ -15,8 +15,7 @@ use reads::GlyphIndex;
 use tables::Record;
 ghost use mathlib.Core.Path.{_≡_};
 ghost use Prim.Native.Nat.{_≤_};
-ghost use Rattle.place.specs.Bounds.{boundsOf};
-ghost use Rattle.place.specs.Info.{infoOf};
+ghost use Rattle.place.specs.Info.{infoIn};
 ghost use Rattle.text.specs.Walk.{newline, advanceOf, reaches, wrapped, placeInfo, placed, spot, penAfter};
 ghost use Rattle.text.specs.Within.{Settled, PenIn, PlacedIn, Moved, placedPen};
 
@@ -64,7 +63,7 @@ fn wrapped(rec: Record, lay: Layout, line: usize, info: GlyphInfo, pen: Pen) -> 
 fn place_glyph(s: &[u8], rec: Record, lay: Layout, line: usize, g: GlyphIndex, pen: Pen) -> Placed
     requires { ⌜ Settled rec lay line ⌝ }
     requires { ⌜ PenIn 65535 pen ⌝ }
-    ensures { λ r. ⌜ r ≡ placeInfo rec lay pen (infoOf (now (s .entry)) (rec .metrics) (boundsOf rec) g) ⌝ }
+    ensures { λ r. ⌜ r ≡ placeInfo rec lay pen (infoIn (now (s .entry)) rec g) ⌝ }
 {
     let top = rec.accel.maxbounds.ascent;
     let measured = metrics_of(s, rec.metrics, g);

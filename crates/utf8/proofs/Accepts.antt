@@ -13,7 +13,7 @@ use Rattle.reads.specs.declared.Refusal.{Refusal}
 use Rattle.reads.proofs.Tests.{split}
 use Rattle.utf8.specs.Step.{stepAt}
 use Rattle.utf8.specs.Decode.{Char, Decoded, chars, refused, consChar, afterStep, decodeFrom, decoded, checked, checkedText, saidChecked}
-use Rattle.utf8.specs.WellFormed.{Sequence, Each, joined, WellFormed, IllFormed, NoText}
+use Rattle.utf8.specs.WellFormed.{Sequence, Each, joined, WellFormed, IllFormed, RefusedText}
 use Rattle.utf8.specs.declared.Checked.{Checked}
 use Rattle.utf8.specs.declared.Step.{Step}
 use Rattle.utf8.proofs.Characters.{Stands, step-sequence, step-last, step-refused, step-none, sequence-step}
@@ -150,7 +150,7 @@ module _ (text : List ℕ) where
   pub well-whole : length text ≤ 65535 → WellFormed text → checkedText text ≡ Checked.Whole
   well-whole h w = sym (walked h) ∙ accepts text .1 w
 
-  pub refused-text : (r : Refusal) → checkedText text ≡ Checked.Refused r → (r .number ≡ 19) × NoText text (r .place)
+  pub refused-text : (r : Refusal) → checkedText text ≡ Checked.Refused r → (r .number ≡ 19) × RefusedText text (r .place)
   refused-text r e =
       split (leb (length text) 65535)
       (λ t. let h = leb-true (length text) 65535 t in let (number, ill) = refuses-at text r .0 (walked h ∙ e) in (number, inr (h, ill)))
@@ -160,8 +160,8 @@ module _ (text : List ℕ) where
       let same : r ≡ refusal 19 0 = cc in
       (ap (λ (t : Refusal). t .number) same, inl (h, ap (λ (t : Refusal). t .place) same)))
 
-  no-text : (p : ℕ) → NoText text p → checkedText text ≡ Checked.Refused (refusal 19 p)
-  no-text p =
+  text-refused : (p : ℕ) → RefusedText text p → checkedText text ≡ Checked.Refused (refusal 19 p)
+  text-refused p =
       ⊎-elim (λ (h, z). sym (too-long text h) ∙ ap (λ (k : ℕ). Checked.Refused (refusal 19 k)) (sym z))
       (λ (h, ill). sym (walked h) ∙ refuses-at text (refusal 19 p) .1 (refl, ill))
 
@@ -173,12 +173,12 @@ module _ (text : List ℕ) where
   pub check-accepts : (saidChecked (checkedText text) .number ≡ 0) ↔ ((length text ≤ 65535) × WellFormed text)
   check-accepts = (accepted (checkedText text) refl, λ (h, w). rw (well-whole h w))
 
-  turned-down : (a : Checked) (n p : ℕ) → checkedText text ≡ a → (n ≡ 0 → ⊥) → saidChecked a ≡ refuses (refusal n p) → (n ≡ 19) × NoText text p
+  turned-down : (a : Checked) (n p : ℕ) → checkedText text ≡ a → (n ≡ 0 → ⊥) → saidChecked a ≡ refuses (refusal n p) → (n ≡ 19) × RefusedText text p
   turned-down Checked.Whole n p e some said = absurd (some (sym (ap (λ (t : Said). t .number) said)))
   turned-down (Checked.Refused r) n p e some said =
       let (number, none) = refused-text r e in
-      (sym (ap (λ (t : Said). t .number) said) ∙ number, subst (NoText text) (ap (λ (t : Said). t .place) said) none)
+      (sym (ap (λ (t : Said). t .number) said) ∙ number, subst (RefusedText text) (ap (λ (t : Said). t .place) said) none)
 
   -- any other number exactly for a text that is too long or ill-formed: 19, with its place
-  pub check-refuses : (n p : ℕ) → (n ≡ 0 → ⊥) → (saidChecked (checkedText text) ≡ refuses (refusal n p)) ↔ ((n ≡ 19) × NoText text p)
-  check-refuses n p some = (turned-down (checkedText text) n p refl some, λ (number, none). rw (no-text p none, number))
+  pub check-refuses : (n p : ℕ) → (n ≡ 0 → ⊥) → (saidChecked (checkedText text) ≡ refuses (refusal n p)) ↔ ((n ≡ 19) × RefusedText text p)
+  check-refuses n p some = (turned-down (checkedText text) n p refl some, λ (number, none). rw (text-refused p none, number))

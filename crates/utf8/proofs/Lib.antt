@@ -6,3 +6,4 @@ pub mod Walk
 pub mod Rest
 pub mod Accepts
 pub mod Spells
+pub mod Refusals

@@ -68,5 +68,5 @@ pub record IllFormed (text : List ℕ) (p : ℕ) : Type 0 where
   pub none : (n : ℕ) → Sequence (take n (drop p text)) → ⊥
 
 -- 19 with place p: "the first byte at which no UTF-8 character as Unicode defines it starts (0 if too long)"
-abbrev pub NoText : List ℕ → ℕ → Type 0
-NoText text p = ((65535 < length text) × (p ≡ 0)) ⊎ ((length text ≤ 65535) × IllFormed text p)
+abbrev pub RefusedText : List ℕ → ℕ → Type 0
+RefusedText text p = ((65535 < length text) × (p ≡ 0)) ⊎ ((length text ≤ 65535) × IllFormed text p)

@@ -19,7 +19,7 @@ use Rattle.props.specs.declared.PropFound.{PropFound}
 use Rattle.props.specs.declared.Property.{Property}
 use Rattle.bitmaps.specs.Picture.{noBitmap, unreadable, rowsShort}
 use Rattle.place.specs.Bounds.{boundsHold, boundsOf}
-use Rattle.place.specs.Info.{infoOf}
+use Rattle.place.specs.Info.{infoIn}
 use Rattle.place.specs.declared.GlyphInfo.{GlyphInfo}
 use Rattle.place.specs.declared.Prepared.{Prepared}
 use Rattle.vet.specs.First.{firstFault}
@@ -59,15 +59,15 @@ module _ (s : List ℕ) (rec : Record) (i : GlyphInfo) (none : Bool) (none-is : 
       unfolding boxFault
       nameless r e = rw (← none-is, there, ← short-is, whole, ← name-is, e)
 
-module _ (s : List ℕ) (rec : Record) (g : GlyphIndex) (info : Prepared) (info-is : info ≡ infoOf s (rec .metrics) (boundsOf rec) g) where
-  pub glyph-placed : (i : GlyphInfo) (n : ℕ) → info ≡ Prepared.Info i → n ≡ boxFault s rec i → n ≡ glyphFault s rec (infoOf s (rec .metrics) (boundsOf rec) g)
+module _ (s : List ℕ) (rec : Record) (g : GlyphIndex) (info : Prepared) (info-is : info ≡ infoIn s rec g) where
+  pub glyph-placed : (i : GlyphInfo) (n : ℕ) → info ≡ Prepared.Info i → n ≡ boxFault s rec i → n ≡ glyphFault s rec (infoIn s rec g)
   glyph-placed i n e is = rw (← info-is, e) is
 
-  pub glyph-refused : (r : Refusal) → info ≡ Prepared.Refused r → r .number ≡ glyphFault s rec (infoOf s (rec .metrics) (boundsOf rec) g)
+  pub glyph-refused : (r : Refusal) → info ≡ Prepared.Refused r → r .number ≡ glyphFault s rec (infoIn s rec g)
   glyph-refused r e = rw (← info-is, e)
 
 module _ (s : List ℕ) (rec : Record) (code : ℕ) (found : Found) (found-is : found ≡ glyphOf s (rec .codes) code) where
-  pub code-found : (g : GlyphIndex) (n : ℕ) → found ≡ Found.Glyph g → n ≡ glyphFault s rec (infoOf s (rec .metrics) (boundsOf rec) g) → n ≡ codeFault s rec code
+  pub code-found : (g : GlyphIndex) (n : ℕ) → found ≡ Found.Glyph g → n ≡ glyphFault s rec (infoIn s rec g) → n ≡ codeFault s rec code
   unfolding codeFault
   code-found g n e is = rw (← found-is, e) is
 

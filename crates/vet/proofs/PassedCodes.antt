@@ -24,7 +24,7 @@ use Rattle.names.proofs.Refusals.{name-not-0}
 use Rattle.metrics.specs.Measure.{glyphMetrics, metricsOf}
 use Rattle.bitmaps.specs.Picture.{noBitmap, rowsShort}
 use Rattle.place.specs.Bounds.{boundsOf, heightOf}
-use Rattle.place.specs.Info.{placeable, boxOf, infoOf}
+use Rattle.place.specs.Info.{placeable, boxOf, infoOf, infoIn}
 use Rattle.place.specs.declared.Prepared.{Prepared}
 use Rattle.vet.specs.Vet.{boxFault, nameFault, glyphFault, codeFault, vetted}
 use Rattle.vet.specs.declared.Vetted.{Vetted}
@@ -42,7 +42,7 @@ pub record Usable (s : List ℕ) (rec : Record) (g : GlyphIndex) : Type 0 where
 
 -- the box of such a glyph
 pub usable-info : (s : List ℕ) (rec : Record) (g : GlyphIndex)
-    → Usable s rec g → infoOf s (rec .metrics) (boundsOf rec) g ≡ Prepared.Info (boxOf g (glyphMetrics s (rec .metrics) (g .0)) (boundsOf rec .ascent))
+    → Usable s rec g → infoIn s rec g ≡ Prepared.Info (boxOf g (glyphMetrics s (rec .metrics) (g .0)) (boundsOf rec .ascent))
 unfolding infoOf metricsOf
 usable-info s rec g u = rw (u .is-measured, u .in-range) refl
 
@@ -53,11 +53,11 @@ module _ (s : List ℕ) (rec : Record) (g : GlyphIndex) where
   abbrev top : ℤ
   top = boundsOf rec .ascent
 
-  usable-clear : Usable s rec g → glyphFault s rec (infoOf s (rec .metrics) (boundsOf rec) g) ≡ 0
+  usable-clear : Usable s rec g → glyphFault s rec (infoIn s rec g) ≡ 0
   unfolding boxFault
   usable-clear u = rw (usable-info s rec g u, u .has-bitmap, u .has-rows, u .is-named) refl
 
-  clear-usable : glyphFault s rec (infoOf s (rec .metrics) (boundsOf rec) g) ≡ 0 → Usable s rec g
+  clear-usable : glyphFault s rec (infoIn s rec g) ≡ 0 → Usable s rec g
   unfolding infoOf metricsOf boxFault
   clear-usable e =
       split (leb (rec .metrics .count) (g .0)) (λ t. absurd (let z : 10 ≡ 0 = rw t at e in omega arith))

@@ -2,7 +2,7 @@
 use Prim.Native.Nat.{ℕ}
 use mathlib.Core.Path.{_≡_, refl, ap}
 use mathlib.Core.Bool.{true}
-use mathlib.Core.List.{List, [], _∷_}
+use mathlib.Core.List.{List, [], _∷_, _++_}
 use mathlib.Core.Logic.{⊎-elim}
 use lib.ListN.{length}
 use lib.Dec.{eqb}
@@ -15,7 +15,7 @@ use Rattle.tables.specs.declared.Record.{Record}
 use Rattle.tables.proofs.RecordParts.{prop-strings, name-strings}
 use Rattle.load.specs.Load.{loaded, saidLoaded}
 use Rattle.load.specs.declared.Loaded.{Loaded}
-use Rattle.load.proofs.Refusals.{load-pcf-refusals}
+use Rattle.load.proofs.Refusals.{ofLoading, load-pcf-refusals}
 use Rattle.load.proofs.Serves.{loaded-serves}
 use Rattle.lookup.specs.Lookup.{glyphOf}
 use Rattle.lookup.specs.declared.Found.{Found}
@@ -27,7 +27,7 @@ use Rattle.props.specs.declared.PropFound.{PropFound}
 use Rattle.props.proofs.Refusals.{prop-in-data}
 use Rattle.bitmaps.specs.Picture.{noBitmap, rowsShort}
 use Rattle.place.specs.Bounds.{boundsOf}
-use Rattle.place.specs.Info.{infoOf, saidPrepared}
+use Rattle.place.specs.Info.{saidPrepared, infoIn}
 use Rattle.place.specs.declared.GlyphInfo.{GlyphInfo}
 use Rattle.place.specs.declared.Prepared.{Prepared}
 use Rattle.place.proofs.Refusals.{info-of-refusals}
@@ -36,11 +36,11 @@ use Rattle.vet.specs.declared.Vetted.{Vetted}
 use Rattle.vet.proofs.FirstFault.{IsFirst}
 use Rattle.vet.proofs.Verdict.{Fails, refused-when}
 
-abbrev ofGlyphs : List ℕ
+abbrev pub ofGlyphs : List ℕ
 ofGlyphs = 10 ∷ 11 ∷ 12 ∷ 14 ∷ 17 ∷ 18 ∷ []
 
-abbrev ofVetting : List ℕ
-ofVetting = 1 ∷ 2 ∷ 3 ∷ 4 ∷ 5 ∷ 6 ∷ 7 ∷ 8 ∷ 13 ∷ 11 ∷ 18 ∷ ofGlyphs
+abbrev pub ofVetting : List ℕ
+ofVetting = ofLoading ++ (13 ∷ 11 ∷ 18 ∷ ofGlyphs)
 
 -- a fault is 0 or one of these
 abbrev FaultOf : List ℕ → ℕ → Type 0
@@ -74,7 +74,7 @@ module _ (s : List ℕ) (rec : Record) (fits : recordFits (length s) rec ≡ tru
   glyph-numbered (Prepared.Refused r) h = elem-more (r .number) (10 ∷ 11 ∷ []) (0 ∷ ofGlyphs) refl (h .is)
 
   found-numbered : (f : Found) → FaultOf ofGlyphs (foundFault s rec f)
-  found-numbered (Found.Glyph g) = glyph-numbered (infoOf s (rec .metrics) (boundsOf rec) g) (info-of-refusals s (rec .metrics) (boundsOf rec) g)
+  found-numbered (Found.Glyph g) = glyph-numbered (infoIn s rec g) (info-of-refusals s (rec .metrics) (boundsOf rec) g)
   found-numbered (Found.Refused r) = refl
 
   code-numbered : (code : ℕ) → FaultOf ofVetting (codeFault s rec code)
@@ -96,8 +96,7 @@ fails-numbered s rec fits n place =
     (⊎-elim (λ (order, bounds, first). first-numbered n place (property-numbered s rec fits) first)
     (λ (order, bounds, props, first). first-numbered n place (code-numbered s rec fits) first)))
 
-pub vet-refusals : (s : List ℕ)
-    → NumberedBy (1 ∷ 2 ∷ 3 ∷ 4 ∷ 5 ∷ 6 ∷ 7 ∷ 8 ∷ 13 ∷ 11 ∷ 18 ∷ 10 ∷ 11 ∷ 12 ∷ 14 ∷ 17 ∷ 18 ∷ []) (saidVetted (vetted s))
+pub vet-refusals : (s : List ℕ) → NumberedBy ofVetting (saidVetted (vetted s))
 unfolding vetted
 vet-refusals s = by (loaded s) refl (load-pcf-refusals s) where
   by-record : (rec : Record) → loaded s ≡ Loaded.Font rec → (x : Vetted) → vetted s ≡ x → NumberedBy ofVetting (saidVetted x)
@@ -105,6 +104,6 @@ vet-refusals s = by (loaded s) refl (load-pcf-refusals s) where
   by-record rec l (Vetted.Refused r) e =
       has-number (fails-numbered s rec (loaded-serves s rec l) (r .number) (r .place) (refused-when s rec l (r .number) (r .place) .0 e))
 
-  by : (x : Loaded) → loaded s ≡ x → NumberedBy (1 ∷ 2 ∷ 3 ∷ 4 ∷ 5 ∷ 6 ∷ 7 ∷ 8 ∷ []) (saidLoaded x) → NumberedBy ofVetting (saidVetted (vetLoaded s x))
+  by : (x : Loaded) → loaded s ≡ x → NumberedBy ofLoading (saidLoaded x) → NumberedBy ofVetting (saidVetted (vetLoaded s x))
   by (Loaded.Font rec) l h = by-record rec l (vetRecord s rec) (ap (vetLoaded s) l)
   by (Loaded.Refused r) l h = wider refl h

@@ -17,7 +17,7 @@ use Rattle.props.specs.Props.{propOf}
 use Rattle.props.specs.declared.PropFound.{PropFound}
 use Rattle.bitmaps.specs.Picture.{noBitmap, unreadable, rowsShort}
 use Rattle.place.specs.Bounds.{boundsHold, boundsOf}
-use Rattle.place.specs.Info.{infoOf}
+use Rattle.place.specs.Info.{infoIn}
 use Rattle.place.specs.declared.GlyphInfo.{GlyphInfo}
 use Rattle.place.specs.declared.Prepared.{Prepared}
 use Rattle.vet.specs.First.{firstFault}
@@ -51,7 +51,7 @@ glyphFault s rec (Prepared.Refused r) = r .number
 
 -- only codes that have a glyph are tested
 abbrev pub foundFault : List ℕ → Record → Found → ℕ
-foundFault s rec (Found.Glyph g) = glyphFault s rec (infoOf s (rec .metrics) (boundsOf rec) g)
+foundFault s rec (Found.Glyph g) = glyphFault s rec (infoIn s rec g)
 foundFault s rec (Found.Refused r) = 0
 
 unfoldable pub codeFault : List ℕ → Record → ℕ → ℕ

@@ -20,9 +20,7 @@ use reads::GlyphIndex;
 use reads::Refusal;
 use tables::Record;
 ghost use mathlib.Core.Path.{_≡_};
-ghost use Prim.Native.Nat.{_-_};
-ghost use Rattle.place.specs.Bounds.{boundsOf};
-ghost use Rattle.place.specs.Info.{infoOf};
+ghost use Rattle.place.specs.Info.{infoIn};
 ghost use Rattle.vet.specs.First.{firstFault};
 ghost use Rattle.vet.specs.Vet.{propFault, boxFault, glyphFault, codeFault, vetRecord, vetted};
 
@@ -82,7 +80,7 @@ fn box_fault(s: &[u8], rec: Record, i: GlyphInfo) -> u8
 
 // Of a glyph: 10, 11, then those.
 fn glyph_fault(s: &[u8], rec: Record, g: GlyphIndex) -> u8
-    ensures { λ r. ⌜ r ≡ glyphFault (now (s .entry)) rec (infoOf (now (s .entry)) (rec .metrics) (boundsOf rec) g) ⌝ }
+    ensures { λ r. ⌜ r ≡ glyphFault (now (s .entry)) rec (infoIn (now (s .entry)) rec g) ⌝ }
 {
     match info_of(s, rec.metrics, rec.accel.maxbounds, g) {
         Prepared::Info(i) => box_fault(s, rec, i),

@@ -2,7 +2,7 @@ use borrow.Author.Needs.{needs}
 use Rattle.tables.proofs.TestedRecord.{tested-6}
 use Rattle.frames.specs.Put.{frameInto}
 use Rattle.frames.specs.declared.Printed.{Printed}
-use Rattle.frames.proofs.HasFrame.{is-fit, framed-small, frame-said, frame-leaves, frameless-said}
+use Rattle.frames.proofs.HasFrame.{is-fit, whole-small, frame-said, frame-leaves, frameless-said}
 use Rattle.frames.proofs.put_frame.Statement.{statement}
 use Rattle.frames.proofs.put_frame.Tie as tie
 
@@ -15,10 +15,10 @@ put-frame-spec =
     tie.close
     (tie.spec
     (λ c κs. search needs)  -- record-fits-requires
-    (λ c κs. search needs)  -- framed-requires
-    (λ c. search needs)  -- enum-known-ready
-    (λ c κs. search (is-fit, framed-small))  -- put-line-requires
-    (λ c. search needs)  -- enum-known-ready-2
+    (λ c κs. search needs)  -- whole-glyph-requires
+    (λ c. search needs)  -- enum-known-whole
+    (λ c κs. search (is-fit, whole-small))  -- put-line-requires
+    (λ c. search needs)  -- enum-known-whole-2
     (λ c. search needs)  -- same-length
     (λ c. search (frame-said, frame-leaves))  -- returns
     (λ c. search frameless-said)  -- returns-2

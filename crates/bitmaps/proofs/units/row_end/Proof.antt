@@ -1,5 +1,5 @@
 use Prim.Native.Nat.{ℕ, _+_, _*_, _/_}
-use mathlib.Core.Path.{_≡_, refl, sym, ap, _∙_}
+use mathlib.Core.Path.{_≡_, refl, sym, _∙_}
 use mathlib.Core.Bool.{true, false, Bool·beq}
 use native.Mathlib.Omega.{arith}
 use Rattle.bitmaps.specs.Rows.{rowBytes, rowEnd}

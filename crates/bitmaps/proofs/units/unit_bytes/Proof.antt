@@ -2,7 +2,6 @@ use Prim.Native.Nat.{ℕ}
 use mathlib.Core.Path.{_≡_, refl, sym}
 use Rattle.bitmaps.specs.Units.{unitBytes}
 use Rattle.bitmaps.proofs.RowEnds.{four-bytes}
-use borrow.Author.Needs.{needs}
 use Rattle.bitmaps.proofs.units.unit_bytes.Statement.{statement}
 use Rattle.bitmaps.proofs.units.unit_bytes.Tie as tie
 

@@ -1,5 +1,4 @@
 use Rattle.tables.proofs.Guarded.{guard-6, guard-15, guard-gives}
-use borrow.Author.Needs.{needs}
 use Rattle.tables.proofs.fits.guard.Statement.{statement}
 use Rattle.tables.proofs.fits.guard.Tie as tie
 

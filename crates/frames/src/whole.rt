@@ -12,8 +12,9 @@ use reads::Refusal;
 use tables::Record;
 ghost use mathlib.Core.Path.{_≡_};
 ghost use Rattle.reads.specs.Said.{refusal};
-ghost use Rattle.frames.specs.Framed.{wholeBox, framed};
+ghost use Rattle.frames.specs.Whole.{wholeBox, wholeGlyph};
 
+// A refusal of what is missing.
 fn refused(number: u8) -> Prepared
     ensures { λ r. ⌜ r ≡ Prepared.Refused (refusal number 0) ⌝ }
 {
@@ -42,8 +43,8 @@ fn whole_box(s: &[u8], rec: Record, i: GlyphInfo) -> Prepared
 }
 
 // Of a code: 9, 10, 11, then those.
-pub(crate) fn framed(s: &[u8], rec: Record, code: CharCode) -> Prepared
-    ensures { λ r. ⌜ r ≡ framed (now (s .entry)) rec (code .0) ⌝ }
+pub(crate) fn whole_glyph(s: &[u8], rec: Record, code: CharCode) -> Prepared
+    ensures { λ r. ⌜ r ≡ wholeGlyph (now (s .entry)) rec (code .0) ⌝ }
 {
     let placed = char_info(s, rec.codes, rec.metrics, rec.accel.maxbounds, code);
     match placed {

@@ -1,5 +1,5 @@
--- What a frame is made of: a glyph of which nothing is missing. From document 01: "per character 9, 10, 11, 12, 13, 14 [...]; names and
--- properties: 6, 17, 18". In a font that passed vetting only 9 is left.
+-- Which code has a frame: one with a glyph of which nothing is missing. From document 01: "per character 9, 10, 11, 12, 13, 14 [...]; names
+-- and properties: 6, 17, 18". In a font that passed vetting only 9 is left: "one frame a line for each code with a glyph".
 use Prim.Native.Nat.{ℕ}
 use mathlib.Core.Bool.{cond}
 use mathlib.Core.List.{List}
@@ -8,8 +8,7 @@ use Rattle.tables.specs.declared.Record.{Record}
 use Rattle.names.specs.Names.{nameOf}
 use Rattle.names.specs.declared.Named.{Named}
 use Rattle.bitmaps.specs.Picture.{noBitmap, unreadable, rowsShort}
-use Rattle.place.specs.Bounds.{boundsOf}
-use Rattle.place.specs.Info.{prepared}
+use Rattle.place.specs.Info.{preparedIn}
 use Rattle.place.specs.declared.GlyphInfo.{GlyphInfo}
 use Rattle.place.specs.declared.Prepared.{Prepared}
 
@@ -31,5 +30,5 @@ whenPlaced s rec (Prepared.Info i) = wholeBox s rec i
 whenPlaced s rec (Prepared.Refused r) = Prepared.Refused r
 
 -- of a code: 9, 10, 11, then those
-unfoldable pub framed : List ℕ → Record → ℕ → Prepared
-framed s rec code = whenPlaced s rec (prepared s (rec .codes) (rec .metrics) (boundsOf rec) code)
+unfoldable pub wholeGlyph : List ℕ → Record → ℕ → Prepared
+wholeGlyph s rec code = whenPlaced s rec (preparedIn s rec code)

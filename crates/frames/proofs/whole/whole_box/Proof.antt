@@ -1,7 +1,7 @@
 use borrow.Author.Needs.{needs}
 use Rattle.frames.proofs.HasFrame.{whole-12, whole-13, whole-14, whole-named, whole-nameless}
-use Rattle.frames.proofs.framing.whole_box.Statement.{statement}
-use Rattle.frames.proofs.framing.whole_box.Tie as tie
+use Rattle.frames.proofs.whole.whole_box.Statement.{statement}
+use Rattle.frames.proofs.whole.whole_box.Tie as tie
 
 pub whole-box-spec : {M : Type 1} → statement M
 whole-box-spec =
