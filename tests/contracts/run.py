@@ -18,9 +18,24 @@ from contracts.functions import public_functions  # noqa: E402
 READING = {("console", "file_of_argument")}
 
 
+# what a theorem on a function of the view says of two results
+VIEW = {
+    "answer": r"\(λ κs r₁ r₂ x₁ x₂\. r₁ ≡ r₂\)",
+    "part": r"\(λ κs r₁ r₂ x₁ x₂\. SamePart r₁ r₂\)",
+    "buffer": r"\(λ κs r₁ r₂ x₁ x₂\. \(r₁ ≡ r₂\) × \(now \(x₁ .*\) ≡ now \(x₂ .*\)\)\)",
+}
+
+
+def determines(clauses):
+    """what a function's contract has to fix"""
+    if "&mut" in clauses:
+        return "buffer"
+    return "part" if re.search(r"-> &", clauses) else "answer"
+
+
 def fixed():
-    """(crate, name), and whether the buffer is in it, of each theorem of those files: one about that
-    function's own contract, and no other"""
+    """(crate, name), and what is fixed, "answer", "part" or "buffer" with the answer, of each theorem of those
+    files: one about that function's own contract, and no other"""
     for path in sorted(glob.glob(os.path.join(ROOT, "crates", "promises", "proofs", "Unique*.antt"))):
         with open(path, encoding="utf-8") as f:
             yield from fixed_by(f.read())
@@ -30,16 +45,19 @@ def fixed_by(text):
     for crate, name, short in re.findall(r"^use Rattle·(\w+)\.proofs\.(\w+)\.Reads as (\S+)-reads$", text, re.M):
         kinds = f"use Rattle.{crate}.proofs.{name}.Kinds as {short}-kinds"
         s = re.escape(short)
-        theorem = rf"^pub {s}-unique : Fixes(Part|Lent|) \d+ {s}-kinds\.ps {s}-kinds\.r {s}-reads\.Post\b"
+        theorem = rf"^pub {s}-unique : Fixes(Part|Lent|) \d+ {s}-kinds\.ps {s}-kinds\.r {s}-reads\.Post\b *(.*)$"
         stated = re.search(theorem, text, re.M)
         if kinds in text.split("\n") and stated:
-            yield (crate, name), stated[1] == "Lent"
+            whole = {"": "", "Part": r"\(λ κs r\. r\)", "Lent": r"\(λ κs x\. now \(x.*\)"}[stated[1]]
+            if re.fullmatch(whole, stated[2]):
+                yield (crate, name), {"": "answer", "Part": "part", "Lent": "buffer"}[stated[1]]
     for crate, name, short in re.findall(r"^use Rattle·(\w+)\.proofs\.(?:Font\.)?(\w+) as (view-\S+)$", text, re.M):
         s = re.escape(short)
         theorem = rf"^  pub {s}-unique : FixesSaid 𝓤 {s}\.ended \({s}\.clauses 𝓤 H A mem run\) (.*)$"
         stated = re.search(theorem, text, re.M)
-        if stated:
-            yield (crate, name), "now (x₁" in stated[1]
+        for fixed_part, form in VIEW.items():
+            if stated and re.fullmatch(form, stated[1]):
+                yield (crate, name), fixed_part
 
 
 def main():
@@ -56,8 +74,8 @@ def main():
             continue
         if (crate, name) not in theorems:
             bad.append(f"{crate}::{name} has no theorem that its contract determines its answer")
-        elif theorems[crate, name] != ("&mut" in clauses):
-            bad.append(f"{crate}::{name} has a theorem that leaves out the lent buffer, or speaks of none")
+        elif theorems[crate, name] != determines(clauses):
+            bad.append(f"{crate}::{name} has a theorem on its {theorems[crate, name]}, not on its {determines(clauses)}")
     lost = sorted(set(theorems) - found)
     bad += [f"{crate}::{name} has a theorem, but is no public function" for crate, name in lost]
     bad += [f"{crate}::{name} reads, but is no public function" for crate, name in sorted(READING - found)]

@@ -11,7 +11,7 @@ LAST, DUMPS = 20, 20  # the greatest number, and the one that the dump program a
 NUMBERS = {("dumper", "print_dump")}
 # answers no values, so that its theorem is of another form: utf8/proofs/Accepts.antt
 NO_VALUES = {("utf8", "check")}
-# take a record and cannot refuse: the record's own test, the view, whose functions test it, and a name alone
+# take a record and cannot refuse: its own test, the view, whose functions test it, and a name's bytes, empty instead
 UNREFUSED = {("tables", "record_fits"), ("font", "open"), ("names", "name_bytes"), ("font", "name_bytes")}
 
 
@@ -112,37 +112,46 @@ def public(known):
 
 def recorded(known):
     """a public function that takes a record, or a view that holds one, tests it before all else"""
-    takers = {call for call, signature in code.signatures() if re.search(r":\s*Record\b|\bself\b", signature)}
-    for call in sorted(takers - UNREFUSED):
+    for call in sorted(takers() & set(known.cells) - UNREFUSED):
         if known.order(call)[:1] != [6]:
             yield f"{known.page}:{known.cells[call][0]}: {'::'.join(call)} takes a record and does not refuse 6 first"
-    for call in sorted(UNREFUSED - takers):
+    for call in sorted(UNREFUSED - takers()):
         yield f"{'::'.join(call)} takes no record"
 
 
+def takers():
+    """the public functions that take a record, or a view that holds one"""
+    return {call for call, signature in code.signatures() if re.search(r"\b(?:Record|Font|self)\b", signature)}
+
+
 def theorems():
-    """the theorems on a call's numbers, NAME-refusals: NAME and its list"""
-    shared = dict(re.findall(r"^(of\w+) = (.*)", code.read("crates/promises/specs/Refusals.antt"), re.M))
+    """the theorems on a call's numbers, NAME-refusals: NAME, its list, and whether 6 is said to be the record's test"""
+    files = sorted(glob.glob(code.path("crates/*/proofs/*Refusals.antt")))
+    lists = [code.read(path) for path in files + ["crates/promises/specs/Refusals.antt"]]
+    shared = dict(re.findall(r"^(of\w+) = (.*)", "".join(lists), re.M))
 
     def numbers(told):
         words = re.findall(r"\d+|of\w+", told)
         return [n for w in words for n in ([int(w)] if w.isdigit() else numbers(shared[w]))]
 
-    for path in sorted(glob.glob(code.path("crates/*/proofs/*Refusals.antt"))):
+    for path in files:
         for m in re.finditer(r"^ *pub (\S+)-refusals :(.*?)^ *(?:unfolding|\1-refusals)\b", code.read(path), re.M | re.S):
-            told = re.search(r"(?:NumberedBy|Refusals s rec) (\w+|\((?:[^()]|\([^()]*\))*\))", m[2])
-            yield m[1].replace("-", "_"), numbers(told[1])
+            told = re.search(r"(NumberedBy|Refusals s rec) (\w+|\((?:[^()]|\([^()]*\))*\))", m[2])
+            yield m[1].replace("-", "_"), (numbers(told[2]), told[1] != "NumberedBy")
 
 
 def proved(known):
     """each theorem has the list of the page, and no call is without one that tells its numbers there itself"""
     lists = dict(theorems())
-    for name, numbers in lists.items():
+    for name, (numbers, _) in lists.items():
         if all(known.order(call) != numbers for call in known.cells if call[1] == name):
             yield f"{known.page}: {name} is proved to be refused {numbers}"
     for call in sorted(known.first - NUMBERS - NO_VALUES):
-        if re.search(r"\d", known.cells[call][1]) and call[1] not in lists:
-            yield f"{known.page}:{known.cells[call][0]}: no theorem on the numbers of {'::'.join(call)}"
+        line, cell, _, _ = known.cells[call]
+        if re.search(r"\d", cell) and call[1] not in lists:
+            yield f"{known.page}:{line}: no theorem on the numbers of {'::'.join(call)}"
+        elif re.search(r"\d", cell) and call in takers() and not lists[call[1]][1]:
+            yield f"{known.page}:{line}: the theorem on {'::'.join(call)} does not say that 6 is the record's test"
 
 
 def told_numbers(known):

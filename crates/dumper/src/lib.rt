@@ -34,7 +34,8 @@ fn print_refused(number: u8, out: &mut [u8])
     }
 }
 
-// A code's frame, nothing for a code without glyph, which is refused 9. In a font that passed there is no other refusal.
+// A code's frame, nothing for a code without glyph, which is refused 9. In a font that passed there is no other
+// refusal.
 fn print_frame(font: &[u8], rec: Record, code: CharCode, out: &mut [u8])
     requires { ⌜ vetted (now font) ≡ Vetted.Passed rec ⌝ }
     requires { ⌜ length (now font) ≤ 49152 ⌝ }

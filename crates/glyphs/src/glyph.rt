@@ -41,7 +41,7 @@ pub(crate) fn ok_info(info: GlyphInfo) -> bool
 }
 
 // What drawing a placed glyph answers with a buffer of `len` pixels: nothing drawn for a glyph without a
-// bitmap, else 13, 14, 16, or the rows. Does not test the record, and asks no limit of `start`.
+// bitmap, else 13, 14, 16, or the rows. Takes the table's numbers as they are, and any `start`.
 pub fn glyph_drawn(
     s: &[u8],
     b: BitmapData,

@@ -1,5 +1,5 @@
 // A placed glyph drawn or unpacked, and a character drawn. Each call that takes a record tests it once;
-// `glyph_drawn` and `show_glyph`, for texts, do not test it again.
+// `glyph_drawn` and `show_glyph`, for texts, take the bitmap table of a record that was tested.
 mod character;
 mod glyph;
 mod unpacking;

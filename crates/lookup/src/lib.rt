@@ -99,7 +99,7 @@ fn entry_glyph(g: u16) -> Found
     Found::Glyph(GlyphIndex(g))
 }
 
-// The glyph of a code in this table, or 9. Does not test the record: bytes past the end read as 0.
+// The glyph of a code in this table, or 9. Bytes past the end read as 0.
 pub fn glyph_of(s: &[u8], codes: EncodingData, code: CharCode) -> Found
     ensures { λ r. ⌜ r ≡ glyphOf (now (s .entry)) codes (code .0) ⌝ }
 {

@@ -46,8 +46,7 @@ fn measured_at(
     }
 }
 
-// The metrics of a glyph in the table of these numbers, or 10. Does not test the record: bytes past the
-// end read as 0.
+// The metrics of a glyph in the table of these numbers, or 10. Bytes past the end read as 0.
 fn metrics_in(
     s: &[u8],
     big: bool,

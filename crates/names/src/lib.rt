@@ -33,7 +33,6 @@ pub enum Zero {
 }
 
 // The name of a glyph in this table, or 17, 18; 6 where the table's strings lie outside the bytes.
-// Does not test the rest of the record.
 pub fn name_of(s: &[u8], n: GlyphNameData, g: GlyphIndex) -> Named
     ensures { λ r. ⌜ r ≡ nameOf (now (s .entry)) n (g .0) ⌝ }
 {

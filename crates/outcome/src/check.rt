@@ -52,7 +52,7 @@ pub fn rows_drawn(len: usize, p: usize, stride: u16, scale: u8, height: u16) -> 
 }
 
 // What drawing glyph g, of this width and height, at place p answers: 13, 14 over the drawn rows, 16, or
-// the rows. Does not test the record, nor whether g has a bitmap.
+// the rows. Takes the table's numbers as they are, and does not ask whether g has a bitmap.
 pub fn shown_at(
     s: &[u8],
     b: BitmapData,
@@ -116,7 +116,7 @@ pub fn shown_at(
 }
 
 // What unpacking glyph g at place p answers: 13, 14 over all rows, 16 for every whole row byte, or the
-// rows. Does not test the record, nor whether g has a bitmap.
+// rows. Takes the table's numbers as they are, and does not ask whether g has a bitmap.
 pub fn unpacked_at(
     s: &[u8],
     b: BitmapData,

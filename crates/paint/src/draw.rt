@@ -21,9 +21,9 @@ ghost use lib.ListN.{length};
 ghost use Rattle.bitmaps.specs.Place.{placeAt};
 ghost use Rattle.bitmaps.specs.Draw.{shownAt, shownLeaves, drawBitmap};
 
-// Draws glyph g, of this width and height, at place p, or refuses 13, 14, 16 and colours nothing. Does
-// not test the record, nor whether g has a bitmap. The tests are those of `outcome::shown_at`, made here so that where
-// the rows stand is found once, for them and for the drawing.
+// Draws glyph g, of this width and height, at place p, or refuses 13, 14, 16 and colours nothing. Takes the
+// table's numbers as they are, and does not ask whether g has a bitmap. The tests are those of `outcome::shown_at`,
+// made here so that where the rows stand is found once, for them and for the drawing.
 pub fn show_at(
     s: &[u8],
     b: BitmapData,

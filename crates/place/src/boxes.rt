@@ -82,7 +82,7 @@ pub fn info_of(s: &[u8], metrics: MetricsData, bounds: MetricsUnpacked, g: Glyph
     }
 }
 
-// A character's box under the maximum bounds, or 9, 10, 11.
+// A character's box under the maximum bounds, or 9, 10, 11. Bytes past the end read as 0.
 pub fn char_info(
     s: &[u8],
     codes: EncodingData,

@@ -37,7 +37,6 @@ fn prop_string(s: &[u8], p: PropertiesData, from: u32) -> Named
 }
 
 // Property number `i` of this table, or 17, 18; 6 where the table's strings lie outside the bytes.
-// Does not test the rest of the record.
 pub fn prop_of(s: &[u8], p: PropertiesData, i: u32) -> PropFound
     ensures { λ r. ⌜ r ≡ propOf (now (s .entry)) p i ⌝ }
 {

@@ -103,9 +103,9 @@ fn unpack_rows(
     }
 }
 
-// Unpacks glyph g, of this width and height, at place p, or refuses 13, 14, 16 and stores nothing. Does
-// not test the record, nor whether g has a bitmap. The tests are those of `outcome::unpacked_at`, made here so that where
-// the rows stand is found once, for them and for the unpacking.
+// Unpacks glyph g, of this width and height, at place p, or refuses 13, 14, 16 and stores nothing. Takes the
+// table's numbers as they are, and does not ask whether g has a bitmap. The tests are those of `outcome::unpacked_at`,
+// made here so that where the rows stand is found once, for them and for the unpacking.
 pub fn unpack_at(
     s: &[u8],
     b: BitmapData,
