@@ -11,7 +11,8 @@ use Rattle.reads.proofs.Numbers.{has-values, has-number, whichever, elem-more, 
 use Rattle.reads.proofs.Tests.{either}
 use Rattle.tables.specs.Values.{saidTable}
 use Rattle.tables.specs.declared.TableRead.{TableRead}
-use Rattle.tables.proofs.Refusals.{properties-at-refusals, accelerators-at-refusals, metrics-at-refusals, bitmaps-at-refusals, codes-at-refusals, names-at-refusals}
+use Rattle.tables.proofs.Refusals.{properties-at-refusals, accelerators-at-refusals, metrics-at-refusals}
+use Rattle.tables.proofs.Refusals.{bitmaps-at-refusals, codes-at-refusals, names-at-refusals}
 use Rattle.load.specs.Gather.{nothing, added, allSix, finished}
 use Rattle.load.specs.Load.{tableAt, entryOf, entryAt, afterEntry, entriesFrom, loaded, saidLoaded}
 use Rattle.load.specs.declared.Gathered.{Gathered}

@@ -64,7 +64,8 @@ module _ (s : List ℕ) (rec : Record) where
 
   pub prep-char-refusals : (code : ℕ) → Refusals s rec (6 ∷ 9 ∷ ofPlacing) (saidPrepared (prepChar s rec code))
   unfolding prepChar
-  prep-char-refusals code = tested-refusals s rec saidPrepared Prepared.Refused (λ r. refl) _ refl (λ fits. char-info-refusals s (rec .metrics) (boundsOf rec) (rec .codes) code)
+  prep-char-refusals code =
+      tested-refusals s rec saidPrepared Prepared.Refused (λ r. refl) _ refl (λ fits. char-info-refusals s (rec .metrics) (boundsOf rec) (rec .codes) code)
 
   pub put-frame-refusals : (code room : ℕ) → Refusals s rec (6 ∷ ofFrames) (saidPrinted (frameInto s rec code room))
   unfolding frameInto

@@ -21,10 +21,15 @@ module _ (s : List ℕ) (rec : Record) where
   unfolding codeFault
   no-glyph-no-fault code r e = rw e refl
 
-  pub codes-in-range :
-      firstFault (codeFault s rec) 65536 0 ≡ firstFault (codeFault s rec) (codeRange (rec .codes) .end .0 - codeRange (rec .codes) .low .0) (codeRange (rec .codes) .low .0)
+  abbrev low : ℕ
+  low = codeRange (rec .codes) .low .0
+
+  abbrev end : ℕ
+  end = codeRange (rec .codes) .end .0
+
+  pub codes-in-range : firstFault (codeFault s rec) 65536 0 ≡ firstFault (codeFault s rec) (end - low) low
   codes-in-range =
-      by-range (codeFault s rec) 65536 (codeRange (rec .codes) .low .0) (codeRange (rec .codes) .end .0) (range-end (rec .codes))
+      by-range (codeFault s rec) 65536 low end (range-end (rec .codes))
       (λ code below. no-glyph-no-fault code (refusal 9 0) (outside-none (rec .codes) code s (inl below)))
       (λ code above. no-glyph-no-fault code (refusal 9 0) (outside-none (rec .codes) code s (inr above)))
 
