@@ -431,7 +431,7 @@ def main():
             fail(f"{path} is not what tools/view.py writes")
         if not check:
             os.makedirs(os.path.dirname(os.path.join(ROOT, path)), exist_ok=True)
-        with open(os.path.join(ROOT, path), "w", encoding="utf-8") as f:
+            with open(os.path.join(ROOT, path), "w", encoding="utf-8") as f:
                 f.write(text)
 
 
