@@ -23,6 +23,12 @@ def ask(call, font, rec, c):
         return model.prop_at(font, rec, c["i"]), None
     if call == "get_name":
         return model.get_name(font, rec, c["g"]), None
+    if call == "name_bytes":
+        at, part = model.name_bytes(font, rec, c["g"])
+        return [at, *part], None
+    if call == "part_of":
+        at, part = model.part_of(font, c["start"], c["count"])
+        return [at, *part], None
     if call == "get_metrics":
         return model.flat_metrics(model.get_metrics(font, rec, c["g"])), None
     if call == "get_accelerators":
@@ -54,6 +60,9 @@ def ask(call, font, rec, c):
         return [length], new
     if call == "put_refused":
         length, new = model.put_refused(c["number"], old)
+        return [length], new
+    if call == "fill_bytes":
+        length, new = model.fill_bytes(text_of(c), old)
         return [length], new
     if call == "hex_read":
         return [model.hex_read(text_of(c))], None

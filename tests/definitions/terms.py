@@ -5,7 +5,8 @@ import re
 import model
 from definitions.answers import answer, text_of
 
-NO_FONT = ("utf8_step", "check", "hex_read", "put_refused", "dump")
+NO_FONT = ("utf8_step", "check", "hex_read", "fill_bytes", "put_refused", "dump")
+NO_RECORD = NO_FONT + ("load", "vet", "part_of")
 
 with open(os.path.join(os.path.dirname(os.path.abspath(__file__)), "seen.txt"), encoding="utf-8") as f:
     SEEN = f.read()
@@ -68,11 +69,15 @@ def term(font, rec, c):
         "draw_char": "char {f} {r} {code} {len} {start} {stride} {scale}",
         "draw_string": "string {f} {r} {t} {len} {lay}",
         "unpack_glyph": "unpack {f} {r} {box} {len} {start} {stride}",
+        "fill_bytes": "fillBytes {t} {len}",
         "put_frame": "putFrame {f} {r} {code} {len}", "put_refused": "putRefused {number} {len}",
+        "name_bytes": "nameOfGlyph {f} {r} {g}", "part_of": "part {f} {span}",
     }
     names = dict(c, f=font, r=rec, t=text)
     if "info" in c:
         names["box"] = glyph_info(c["info"])
+    if "count" in c:
+        names["span"] = f"(record {{ start = {c['start']}; len = {c['count']} }})"
     if "wrap" in c:
         names["lay"] = layout(c)
     if call == "dump":
@@ -105,7 +110,7 @@ def module(batch, fonts, uses, opened):
                 out.append(f"{f} : List ℕ\n{f} = {numbers(fonts[c['font']])}\n")
                 written.add(f)
         made = None
-        if call not in NO_FONT + ("load", "vet"):
+        if call not in NO_RECORD:
             loaded = model.load(fonts[c.get("of", c["font"])])
             made = model.changed(loaded, c.get("rec", {}))
             if "rec" in c:

@@ -89,6 +89,14 @@ def public():
         yield (crate, name), bool(answer) and answer[1] in refusing
 
 
+def answers():
+    """crate::name of each enum that a public function answers with; one that makes an argument answers nothing"""
+    made = {"Wrap"}
+    enums = {name: crate for crate in crates() for name in re.findall(r"^pub enum (\w+)", source(crate), re.M)}
+    returned = {answer for _, _, clauses in public_functions() for answer in re.findall(r"-> (\w+)", clauses)}
+    return {f"{enums[name]}::{name}" for name in returned & set(enums) - made}
+
+
 def signatures():
     """(crate, name) of each public function, and its parameters"""
     for crate, name, clauses in public_functions():

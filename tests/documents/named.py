@@ -3,7 +3,8 @@
 Names belong to what stands before them in the same cell or paragraph: after `crate/File: name` a further name is of
 that file too, after `crate::name` of that crate. A name that fits no kind is a fault.
 
-Of some other pages only the names with a crate or a folder are looked at, since the rest are words of many kinds."""
+Of some other pages only the names with a crate or a folder and those of laws, which have hyphens, are looked at, since
+the rest are words of many kinds."""
 import collections
 import re
 
@@ -38,6 +39,8 @@ NAMING = ("Function", "Answer", "Its definition", "Here", "Edit", "Refused in")
 ELSEWHERE = re.compile(r"\w+ case|below|the .* under \".*\"")
 FOLDERS = "crates|tests|docs|include|bindings|examples|meter-font|bench"
 PATH = re.compile(rf"(?<![\w/.`])(?:{FOLDERS})/[\w./*-]*\w")
+
+LAW = re.compile(r"[a-z0-9]+(?:-[a-z0-9]+)+")
 
 # where a name without a crate is looked for: what it would be, the names there, and the crate
 Near = collections.namedtuple("Near", "kind names crate")
@@ -97,6 +100,8 @@ class Reader:
             self.edits[name] += piece.column == "Edit"
         elif PATH.fullmatch(name) or self.every and "/" in name:
             self.found(line, name, "files", code.exists(name))
+        elif not self.every and LAW.fullmatch(name):
+            self.found(line, name, "theorems", name in code.all_declared("proofs"))
         elif not self.every:
             self.counts["words not looked up"] += 1
         elif piece.column == "Refused in":
@@ -175,6 +180,15 @@ def drawn():
             yield f"{pages.ARCHITECTURE}: {crate} stands {told.count(crate)} times in the table of crates"
 
 
+def answered():
+    """docs/PROMISES.md has each enum that a public function answers with once in its table of answers"""
+    tables = [table for table in pages.tables(pages.PROMISES) if table.head[0] == "Answer"]
+    told = [name for table in tables for _, row in table.rows for _, name in pages.names(row[0])]
+    for enum in sorted(code.answers() | set(told)):
+        if told.count(enum) != 1 or enum not in code.answers():
+            yield f"{pages.PROMISES}: {enum} stands {told.count(enum)} times in the table of answers"
+
+
 def exported():
     """docs/CALLS.md has each function of the header once beside the call that it is"""
     declared = re.findall(r"^thk_\w+ (thk_\w+)\(", code.read("include", "thalluskin.h"), re.M)
@@ -191,5 +205,5 @@ def check():
     for reader in readers:
         reader.read()
     faults = [fault for reader in readers for fault in reader.faults]
-    faults += [*stands(readers[0]), *drawn(), *exported()]
+    faults += [*stands(readers[0]), *drawn(), *answered(), *exported()]
     return sum((r.counts for r in readers), collections.Counter()), faults

@@ -9,7 +9,7 @@ ORDER = "Refusals, in order"
 LAST, DUMPS = 20, 20  # the greatest number, and the one that the dump program alone gives
 # answers the refusal's number itself, so that its type does not show that it refuses
 NUMBERS = {("dumper", "print_dump")}
-# answers no values, so that its theorem is of another form: utf8/proofs/Accepts.antt
+# answers no values, so that its theorem is of another form: utf8/proofs/CheckedText.antt
 NO_VALUES = {("utf8", "check")}
 # take a record and cannot refuse: its own test, the view, whose functions test it, and a name's bytes, empty instead
 UNREFUSED = {("tables", "record_fits"), ("font", "open"), ("names", "name_bytes"), ("font", "name_bytes")}
@@ -127,8 +127,8 @@ def takers():
 def theorems():
     """the theorems on a call's numbers, NAME-refusals: NAME, its list, and whether 6 is said to be the record's test"""
     files = sorted(glob.glob(code.path("crates/*/proofs/*Refusals.antt")))
-    lists = [code.read(path) for path in files + ["crates/promises/specs/Refusals.antt"]]
-    shared = dict(re.findall(r"^(of\w+) = (.*)", "".join(lists), re.M))
+    lists = [code.read(path) for path in files + sorted(glob.glob(code.path("crates/*/specs/*.antt")))]
+    shared = dict(re.findall(r"^(of[A-Z]\w+) = ((?:\w+ ∷|\w+ \+\+).*)", "\n".join(lists), re.M))
 
     def numbers(told):
         words = re.findall(r"\d+|of\w+", told)

@@ -1,7 +1,8 @@
 #!/usr/bin/env python3
 """Holds the pages for people to the sources: what docs/PROMISES.md names exists, and every public function, edit and
-test stands there; refusals have the same numbers and orders wherever they are told; lines are short, links lead
-somewhere, and decisions are numbered without a gap."""
+test stands there, and every enum that a public function answers with; refusals have the same numbers and orders
+wherever they are told, and a function that takes a record tells 6 first; lines are short, links lead somewhere, and
+decisions are numbered without a gap."""
 import collections
 import os
 import sys

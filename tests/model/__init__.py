@@ -5,13 +5,13 @@ nested loops over rows, columns and blocks, linear searches. tests/definitions h
 from model.codes import get_glyph, lookup
 from model.drawing import (bitmap_check, char_check, coloured, draw_bitmap, draw_char, draw_glyph, glyph_check,
                            glyph_picture, unpack_check, unpack_glyph)
-from model.dumping import dump, hex_read, put_frame, put_refused
+from model.dumping import dump, fill_bytes, hex_read, put_frame, put_refused
 from model.flattening import METRIC_FIELDS, flat_accel, flat_info, flat_metrics, flat_record
 from model.loading import load
 from model.metrics import dimensions, get_accelerators, get_metrics, metrics_at, prep_char
 from model.record import changed
 from model.refusal import Refused
-from model.strings import get_name, prop_at
+from model.strings import get_name, name_bytes, part_of, prop_at
 from model.texts import draw_string, text_check
 from model.utf8 import check, utf8_step
 from model.vetting import vet

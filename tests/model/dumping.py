@@ -1,5 +1,5 @@
-"""The dump: its input, lines of hexadecimal digits, and a frame for each code with a glyph; and each of its lines
-written into a buffer."""
+"""The dump: its input, lines of hexadecimal digits, and a frame for each code with a glyph; and the input's bytes and
+each of its lines written into a buffer."""
 from model.codes import lookup
 from model.drawing import ceil8, is_set, rows_in_data
 from model.metrics import prep_char
@@ -84,10 +84,14 @@ def dump(text):
 
 
 def put(line, buf):
-    """how many bytes a line has, and the buffer with the line at its start"""
+    """how many bytes these are, and the buffer with them at its start"""
     if len(line) > len(buf):
         raise Refused(15)
     return len(line), list(line) + buf[len(line):]
+
+
+def fill_bytes(text, buf):
+    return put(hex_bytes(text), buf)
 
 
 def put_frame(b, rec, code, buf):

@@ -50,6 +50,12 @@ def name_part(b, rec, g):
     return string_at(b, na["strings"], na["size"], off)
 
 
+def part_of(b, start, length):
+    """where a part of the bytes begins, and its bytes: those that there are"""
+    start = min(start, len(b))
+    return start, list(b[start:start + length])
+
+
 def get_name(b, rec, g):
     check_record(b, rec)
     if g >= rec["names"]["count"]:
@@ -58,3 +64,11 @@ def get_name(b, rec, g):
     if r is None:
         raise Refused(18)
     return r
+
+
+def name_bytes(b, rec, g):
+    """the part that the name is; nothing, at the beginning, where it is refused"""
+    try:
+        return part_of(b, *get_name(b, rec, g))
+    except Refused:
+        return part_of(b, 0, 0)

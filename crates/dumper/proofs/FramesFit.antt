@@ -16,9 +16,9 @@ use Rattle.frames.specs.declared.Printed.{Printed}
 use Rattle.frames.proofs.PassedFrames.{passed-nine}
 use Rattle.dumper.proofs.LineCounts.{isBytes}
 
-pub frame-fits : (s : List ℕ) (rec : Record) (code room : ℕ) (answer : Printed) (q : Refusal) → vetted s ≡ Vetted.Passed rec → length s ≤ 49152 → 196642 ≤ room
+pub no-other-refusal : (s : List ℕ) (rec : Record) (code room : ℕ) (answer : Printed) (q : Refusal) → vetted s ≡ Vetted.Passed rec → length s ≤ 49152 → 196642 ≤ room
     → answer ≡ frameInto s rec code room → answer ≡ Printed.Refused q → (q .number ≡ 9 → ⊥) → ⊥
-frame-fits s rec code room answer q passed short enough is e other = other (passed-nine s rec passed code room (omega arith) q (sym is ∙ e))
+no-other-refusal s rec code room answer q passed short enough is e other = other (passed-nine s rec passed code room (omega arith) q (sym is ∙ e))
 
 pub refused-fits : (n room : ℕ) (r : Printed) (q : Refusal) → n ≤ 99 → 11 ≤ room → r ≡ refusedInto n room → r ≡ Printed.Refused q → ⊥
 unfolding refusedInto

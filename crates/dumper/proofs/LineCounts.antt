@@ -23,7 +23,7 @@ abbrev countOf : Printed → ℕ
 countOf (Printed.Bytes n) = n
 countOf (Printed.Refused r) = 0
 
-pub line-within : (line old new : List ℕ) (r : Printed) (n : ℕ)
+line-within : (line old new : List ℕ) (r : Printed) (n : ℕ)
     → r ≡ lineInto line (length old) → new ≡ lineLeaves line r old → r ≡ Printed.Bytes n → n ≤ length new
 line-within line old new r n answer left e =
     split (ltb (length old) (length line))

@@ -13,7 +13,7 @@ use Rattle.tables.specs.Fits.{recordFits}
 use Rattle.tables.proofs.RecordParts.{pad-above-0}
 use Rattle.tables.specs.declared.BitmapData.{BitmapData}
 use Rattle.tables.specs.declared.Record.{Record}
-use Rattle.names.specs.Names.{nameOf, nameBytes}
+use Rattle.names.specs.Names.{nameOf, spanOf, nameBytes}
 use Rattle.names.specs.declared.Named.{Named}
 use Rattle.bitmaps.specs.Units.{orderOf, unitBytes}
 use Rattle.bitmaps.specs.Rows.{rowBytes, rowStride, rowEnd}
@@ -78,8 +78,9 @@ module _ (s : List ℕ) (b : BitmapData) (i : GlyphInfo) (pad : 0 < b .pad) (fit
 
 -- a name is a part of the font's bytes
 pub name-within : (s : List ℕ) (n : Named) → length (nameBytes s n) ≤ length s
-name-within s (Named.Name p) = rw (length-take (p .len) (drop (p .start) s), length-drop (p .start) s) (omega arith)
-name-within s (Named.Refused r) = omega arith
+name-within s n =
+    let p = spanOf n in
+    rw (length-take (p .len) (drop (p .start) s), length-drop (p .start) s) (omega arith)
 
 -- a frame, of any font that its record fits: 49,152 bytes need at most 196,642 characters
 pub frame-room : (s : List ℕ) (rec : Record) (code : ℕ) (i : GlyphInfo)

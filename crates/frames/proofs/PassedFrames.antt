@@ -1,6 +1,6 @@
 -- In a font that passed vetting every code with a glyph has a frame, so that 9 is the one refusal left.
 use Prim.Native.Nat.{ℕ, _+_, _*_, _≤_}
-use mathlib.Core.Path.{_≡_, refl, sym, ap, _∙_}
+use mathlib.Core.Path.{_≡_, refl, ap, _∙_}
 use mathlib.Core.Bool.{true}
 use mathlib.Core.List.{List}
 use native.Mathlib.Omega.{arith}
@@ -27,11 +27,12 @@ use Rattle.frames.specs.Put.{glyphInto, frameInto}
 use Rattle.frames.specs.declared.Printed.{Printed}
 use Rattle.frames.proofs.FrameRoom.{frame-room}
 
+-- a code of which a frame lacks something has no glyph
 pub passed-whole : (s : List ℕ) (rec : Record) → vetted s ≡ Vetted.Passed rec
-    → (code : ℕ) (r : Refusal) → wholeGlyph s rec code ≡ Prepared.Refused r → r .number ≡ 9
+    → (code : ℕ) (r : Refusal) → wholeGlyph s rec code ≡ Prepared.Refused r → glyphOf s (rec .codes) code ≡ Found.Refused r
 unfolding wholeGlyph prepared wholeBox
 passed-whole s rec passed code r e = by (glyphOf s (rec .codes) code) refl where
-  by : (x : Found) → glyphOf s (rec .codes) code ≡ x → r .number ≡ 9
+  by : (x : Found) → glyphOf s (rec .codes) code ≡ x → x ≡ Found.Refused r
   by (Found.Glyph g) found =
       let u = passed-usable s rec passed code g found in
       let readable = passes-when s rec .0 passed .1 .readable in
@@ -41,22 +42,26 @@ passed-whole s rec passed code r e = by (glyphOf s (rec .codes) code) refl where
   by (Found.Refused q) found =
       let d : Prepared.Refused q ≡ Prepared.Refused r = rw found at e in
       let same : q ≡ r = cc in
-      ap (λ (x : Refusal). x .number) (sym same) ∙ no-glyph-nine s (rec .codes) code q found
+      ap Found.Refused same
 
 -- where there is room for a frame of so many bytes
 module _ (s : List ℕ) (rec : Record) (passed : vetted s ≡ Vetted.Passed rec) (code room : ℕ) (enough : 34 + 4 * length s ≤ room) where
   fits : recordFits (length s) rec ≡ true
   fits = loaded-serves s rec (passes-when s rec .0 passed .0)
 
-  only-nine : (x : Prepared) → wholeGlyph s rec code ≡ x → (q : Refusal) → glyphInto s rec code room x ≡ Printed.Refused q → q .number ≡ 9
-  only-nine (Prepared.Info i) e q d =
+  only-lacking : (x : Prepared) → wholeGlyph s rec code ≡ x → (q : Refusal) → glyphInto s rec code room x ≡ Printed.Refused q → glyphOf s (rec .codes) code ≡ Found.Refused q
+  only-lacking (Prepared.Info i) e q d =
       let within : length (frame s rec code i) ≤ room = omega (arith, frame-room s rec code i fits e) in
       let put : Printed.Bytes (length (frame s rec code i)) ≡ Printed.Refused q = rw (le-ltb room (length (frame s rec code i)) within) at d in
       let z : _≡_ {A = ℕ} 0 1 = cc in absurd (omega arith)
-  only-nine (Prepared.Refused r) e q d =
+  only-lacking (Prepared.Refused r) e q d =
       let same : r ≡ q = cc in
-      ap (λ (x : Refusal). x .number) (sym same) ∙ passed-whole s rec passed code r e
+      passed-whole s rec passed code r e ∙ ap Found.Refused same
+
+  -- a frame is refused for a code without a glyph alone
+  pub passed-lacking : (q : Refusal) → frameInto s rec code room ≡ Printed.Refused q → glyphOf s (rec .codes) code ≡ Found.Refused q
+  unfolding frameInto
+  passed-lacking q e = only-lacking (wholeGlyph s rec code) refl q (rw fits at e)
 
   pub passed-nine : (q : Refusal) → frameInto s rec code room ≡ Printed.Refused q → q .number ≡ 9
-  unfolding frameInto
-  passed-nine q e = only-nine (wholeGlyph s rec code) refl q (rw fits at e)
+  passed-nine q e = no-glyph-nine s (rec .codes) code q (passed-lacking q e)

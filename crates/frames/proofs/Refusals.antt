@@ -12,20 +12,16 @@ use Rattle.tables.specs.declared.Record.{Record}
 use Rattle.tables.proofs.RecordParts.{name-strings}
 use Rattle.names.specs.Names.{nameOf, saidNamed}
 use Rattle.names.specs.declared.Named.{Named}
-use Rattle.names.proofs.Refusals.{string-in-data, name-by-string}
+use Rattle.names.proofs.Refusals.{name-in-data}
 use Rattle.bitmaps.specs.Picture.{noBitmap, unreadable, rowsShort}
 use Rattle.place.specs.Bounds.{boundsOf}
-use Rattle.place.specs.Info.{preparedIn, saidPrepared}
+use Rattle.place.specs.Info.{preparedIn, ofPlacing, saidPrepared}
 use Rattle.place.specs.declared.GlyphInfo.{GlyphInfo}
 use Rattle.place.specs.declared.Prepared.{Prepared}
 use Rattle.place.proofs.Refusals.{char-info-refusals}
 use Rattle.frames.specs.Whole.{whenNamed, wholeBox, whenPlaced, wholeGlyph}
 use Rattle.frames.specs.Frames.{frame}
-use Rattle.frames.specs.Put.{lineInto, glyphInto, refusedLine, refusedInto, saidPrinted}
-
--- past the record's test
-abbrev pub ofFrames : List ℕ
-ofFrames = 9 ∷ 10 ∷ 11 ∷ 12 ∷ 13 ∷ 14 ∷ 17 ∷ 18 ∷ 15 ∷ []
+use Rattle.frames.specs.Put.{lineInto, glyphInto, refusedLine, refusedInto, ofFrames, saidPrinted}
 
 line-numbered : (line : List ℕ) (room : ℕ) → NumberedBy (15 ∷ []) (saidPrinted (lineInto line room))
 line-numbered line room = whichever saidPrinted (ltb room (length line)) (has-number refl) has-values
@@ -47,15 +43,15 @@ module _ (s : List ℕ) (rec : Record) (fits : recordFits (length s) rec ≡ tru
       whichever saidPrepared (noBitmap b g) (has-number refl)
       (whichever saidPrepared (unreadable b) (has-number refl)
       (whichever saidPrepared (rowsShort s b g (i .width) (i .height)) (has-number refl)
-      (named-numbered (nameOf s (rec .names) g) i (name-by-string s (rec .names) g (string-in-data s _ _ _ (name-strings (length s) rec fits))))))
+      (named-numbered (nameOf s (rec .names) g) i (name-in-data s (rec .names) g (name-strings (length s) rec fits)))))
 
-  placed-numbered : (x : Prepared) → NumberedBy (9 ∷ 10 ∷ 11 ∷ []) (saidPrepared x) → NumberedBy ofFrames (saidPrepared (whenPlaced s rec x))
+  placed-numbered : (x : Prepared) → NumberedBy (9 ∷ ofPlacing) (saidPrepared x) → NumberedBy ofFrames (saidPrepared (whenPlaced s rec x))
   placed-numbered (Prepared.Info i) h = box-numbered i
   placed-numbered (Prepared.Refused r) h = wider refl h
 
   glyph-numbered : (code : ℕ) → NumberedBy ofFrames (saidPrepared (wholeGlyph s rec code))
   unfolding wholeGlyph
-  glyph-numbered code = placed-numbered (preparedIn s rec code) (char-info-refusals s (rec .metrics) (boundsOf rec) (rec .codes) code)
+  glyph-numbered code = placed-numbered (preparedIn s rec code) (char-info-refusals s (rec .codes) (rec .metrics) (boundsOf rec) code)
 
   into-numbered : (code room : ℕ) (x : Prepared) → NumberedBy ofFrames (saidPrepared x) → NumberedBy ofFrames (saidPrinted (glyphInto s rec code room x))
   into-numbered code room (Prepared.Info i) h = wider refl (line-numbered (frame s rec code i) room)

@@ -49,6 +49,10 @@ refusedInto n room = cond (ltb 99 n) (Printed.Refused (refusal 15 0)) (lineInto 
 abbrev pub refusedLeaves : ℕ → Printed → List ℕ → List ℕ
 refusedLeaves n answer old = lineLeaves (refusedLine n) answer old
 
+-- the numbers of a frame's refusal past the record's test
+abbrev pub ofFrames : List ℕ
+ofFrames = 9 ∷ 10 ∷ 11 ∷ 12 ∷ 13 ∷ 14 ∷ 17 ∷ 18 ∷ 15 ∷ []
+
 abbrev pub saidPrinted : Printed → Said
 saidPrinted (Printed.Bytes n) = says (pos n ∷ [])
 saidPrinted (Printed.Refused r) = refuses r

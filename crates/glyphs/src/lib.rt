@@ -1,5 +1,5 @@
 // A placed glyph drawn or unpacked, and a character drawn. Each call that takes a record tests it once;
-// `glyph_drawn` and `show_glyph`, for texts, take the bitmap table of a record that was tested.
+// `glyph_drawn` and `show_glyph`, for texts, which have tested it, take a bitmap table as it is.
 mod character;
 mod glyph;
 mod unpacking;

@@ -14,16 +14,13 @@ use Rattle.tables.specs.declared.TableRead.{TableRead}
 use Rattle.tables.proofs.Refusals.{properties-at-refusals, accelerators-at-refusals, metrics-at-refusals}
 use Rattle.tables.proofs.Refusals.{bitmaps-at-refusals, codes-at-refusals, names-at-refusals}
 use Rattle.load.specs.Gather.{nothing, added, allSix, finished}
-use Rattle.load.specs.Load.{tableAt, entryOf, entryAt, afterEntry, entriesFrom, loaded, saidLoaded}
+use Rattle.load.specs.Load.{tableAt, entryOf, entryAt, afterEntry, entriesFrom, loaded, ofLoading, saidLoaded}
 use Rattle.load.specs.declared.Gathered.{Gathered}
 use Rattle.load.specs.declared.Entered.{Entered}
 use Rattle.load.specs.declared.Loaded.{Loaded}
 
 abbrev ofTables : List ℕ
 ofTables = 6 ∷ 7 ∷ []
-
-abbrev pub ofLoading : List ℕ
-ofLoading = 1 ∷ 2 ∷ 3 ∷ 4 ∷ 5 ∷ 6 ∷ 7 ∷ 8 ∷ []
 
 table-numbered : (s : List ℕ) (kind format at end : ℕ) → NumberedBy ofTables (saidTable (tableAt s kind format at end))
 unfolding tableAt

@@ -3,7 +3,7 @@
 -- (5; within a table 6 for its header, 7, 6 for the rest), then 8"; the place is "for 5, 6 and 7 in loading, the entry's number from 0".
 use Prim.Native.Nat.{ℕ, zero, suc, _+_, _*_, min}
 use mathlib.Core.Bool.{true, false, not, cond, _||_}
-use mathlib.Core.List.{List}
+use mathlib.Core.List.{List, [], _∷_}
 use lib.ListN.{length}
 use lib.Dec.{ltb, eqb}
 use Rattle.reads.specs.Num.{u32At}
@@ -63,6 +63,10 @@ loaded s =
     (cond (ltb 64 count) (Loaded.Refused (refusal 3 0))
     (cond (ltb (length s) (8 + 16 * count)) (Loaded.Refused (refusal 4 0))
     (entriesFrom s count 0 nothing))))
+
+-- the numbers of a refusal: "Order in loading: 1 to 4, then entries in order (5; within a table 6 for its header, 7, 6 for the rest), then 8"
+abbrev pub ofLoading : List ℕ
+ofLoading = 1 ∷ 2 ∷ 3 ∷ 4 ∷ 5 ∷ 6 ∷ 7 ∷ 8 ∷ []
 
 abbrev pub saidLoaded : Loaded → Said
 saidLoaded (Loaded.Font r) = says (recordValues r)

@@ -6,7 +6,6 @@ use crate::Kinds;
 use crate::Loaded;
 use crate::blanks::blank;
 use reads::Refusal;
-use tables::Record;
 use tables::TableRead;
 ghost use mathlib.Core.Path.{_≡_};
 ghost use Rattle.load.specs.Gather.{nothing, added, allSix, finished};

@@ -43,9 +43,13 @@ module _ (s : List ℕ) (n : GlyphNameData) (g : ℕ) where
   abbrev string : Named
   string = stringAt s (n .strings) (n .size) (u32At (n .big) s (n .offsets + 4 * g))
 
-  pub name-by-string : {ns : List ℕ} → NumberedBy ns (saidNamed string) → NumberedBy (17 ∷ ns) (saidNamed (nameOf s n g))
+  name-by-string : {ns : List ℕ} → NumberedBy ns (saidNamed string) → NumberedBy (17 ∷ ns) (saidNamed (nameOf s n g))
   unfolding nameOf
   name-by-string h = whichever saidNamed (leb (n .count) g) (has-number refl) (one-more h)
+
+  -- where the string data lies in the bytes
+  pub name-in-data : inside (length s) (n .strings) (n .size) ≡ true → NumberedBy (17 ∷ 18 ∷ []) (saidNamed (nameOf s n g))
+  name-in-data fits = name-by-string (string-in-data s (n .strings) (n .size) (u32At (n .big) s (n .offsets + 4 * g)) fits)
 
   pub name-not-0 : (r : Refusal) → nameOf s n g ≡ Named.Refused r → r .number ≡ 0 → ⊥
   name-not-0 r e =

@@ -65,8 +65,8 @@ pub fn get_name(bytes: &[u8], rec: Record, glyph: GlyphIndex) -> Named
 }
 
 // The name itself, where it stands in the font's own bytes; empty, and at their beginning, where `get_name`
-// refuses. An empty name looks the same: to tell them apart, ask `get_name`, and `part_of` for the span that
-// it answers.
+// refuses. An empty name has no bytes either: to tell them apart, ask `get_name`, and `part_of` for the span
+// that it answers.
 pub fn name_bytes(bytes: &[u8], rec: Record, glyph: GlyphIndex) -> &[u8]
     ensures { λ r. ⌜ now r ≡ nameBytes (now (bytes .entry)) (getName (now (bytes .entry)) rec (glyph .0)) ⌝ }
     ensures { λ r. ⌜ r .ptr ≡ movedBy (bytes .entry .ptr) (nameAt (now (bytes .entry)) (getName (now (bytes .entry)) rec (glyph .0))) ⌝ }

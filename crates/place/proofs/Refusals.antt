@@ -14,19 +14,20 @@ use Rattle.lookup.proofs.Refusals.{glyph-of-refusals}
 use Rattle.metrics.specs.Measure.{metricsOf, saidMeasured}
 use Rattle.metrics.specs.declared.Measured.{Measured}
 use Rattle.metrics.proofs.Refusals.{metrics-of-refusals}
-use Rattle.place.specs.Info.{placeable, boxed, withMetrics, infoOf, withGlyph, prepared, saidPrepared}
+use Rattle.place.specs.Info.{placeable, boxed, withMetrics, infoOf, withGlyph, prepared, ofPlacing, saidPrepared}
 
-module _ (s : List ℕ) (metrics : MetricsData) (bounds : MetricsUnpacked) where
-  pub info-of-refusals : (g : GlyphIndex) → NumberedBy (10 ∷ 11 ∷ []) (saidPrepared (infoOf s metrics bounds g))
+module _ (s : List ℕ) where
+  pub info-of-refusals : (metrics : MetricsData) (bounds : MetricsUnpacked) (g : GlyphIndex) → NumberedBy ofPlacing (saidPrepared (infoOf s metrics bounds g))
   unfolding infoOf
-  info-of-refusals g = by (metricsOf s metrics (g .0)) (metrics-of-refusals s metrics (g .0)) where
-    by : (x : Measured) → NumberedBy (10 ∷ []) (saidMeasured x) → NumberedBy (10 ∷ 11 ∷ []) (saidPrepared (withMetrics x (λ m. boxed g m (bounds .ascent))))
+  info-of-refusals metrics bounds g = by (metricsOf s metrics (g .0)) (metrics-of-refusals s metrics (g .0)) where
+    by : (x : Measured) → NumberedBy (10 ∷ []) (saidMeasured x) → NumberedBy ofPlacing (saidPrepared (withMetrics x (λ m. boxed g m (bounds .ascent))))
     by (Measured.Metrics m) h = whichever saidPrepared (placeable m (bounds .ascent)) has-values (has-number refl)
     by (Measured.Refused r) h = wider refl h
 
-  pub char-info-refusals : (codes : EncodingData) (code : ℕ) → NumberedBy (9 ∷ 10 ∷ 11 ∷ []) (saidPrepared (prepared s codes metrics bounds code))
+  pub char-info-refusals : (codes : EncodingData) (metrics : MetricsData) (bounds : MetricsUnpacked) (code : ℕ)
+      → NumberedBy (9 ∷ ofPlacing) (saidPrepared (prepared s codes metrics bounds code))
   unfolding prepared
-  char-info-refusals codes code = by (glyphOf s codes code) (glyph-of-refusals s codes code) where
-    by : (x : Found) → NumberedBy (9 ∷ []) (saidFound x) → NumberedBy (9 ∷ 10 ∷ 11 ∷ []) (saidPrepared (withGlyph x (λ g. infoOf s metrics bounds g)))
-    by (Found.Glyph g) h = one-more (info-of-refusals g)
+  char-info-refusals codes metrics bounds code = by (glyphOf s codes code) (glyph-of-refusals s codes code) where
+    by : (x : Found) → NumberedBy (9 ∷ []) (saidFound x) → NumberedBy (9 ∷ ofPlacing) (saidPrepared (withGlyph x (λ g. infoOf s metrics bounds g)))
+    by (Found.Glyph g) h = one-more (info-of-refusals metrics bounds g)
     by (Found.Refused r) h = wider refl h

@@ -66,6 +66,10 @@ preparedIn s rec code = prepared s (rec .codes) (rec .metrics) (boundsOf rec) co
 unfoldable pub prepChar : List ℕ → Record → ℕ → Prepared
 prepChar s rec code = tested Prepared.Refused s rec (preparedIn s rec code)
 
+-- the numbers of a glyph that cannot be placed
+abbrev pub ofPlacing : List ℕ
+ofPlacing = 10 ∷ 11 ∷ []
+
 abbrev pub infoValues : GlyphInfo → List ℤ
 infoValues i = pos (i .glyph .0) ∷ pos (i .width) ∷ pos (i .height) ∷ pos (i .«pad_top») ∷ pos (i .«pad_left») ∷ []
 

@@ -1,4 +1,4 @@
--- The numbers of each call that draws or unpacks a glyph or a text or steps through one, in the same way.
+-- The numbers of each call that draws or unpacks a glyph, or draws a text, in the same way.
 use mathlib.Core.Path.{_≡_, refl}
 use mathlib.Core.Bool.{cond, _&&_}
 use mathlib.Core.List.{List, [], _∷_, _++_}
@@ -21,15 +21,16 @@ use Rattle.bitmaps.specs.Unpack.{unscaled, wholeColumns, unpackedAt, saidUnpack
 use Rattle.bitmaps.specs.declared.Drawn.{Drawn}
 use Rattle.bitmaps.specs.declared.Unpacked.{Unpacked}
 use Rattle.place.specs.Bounds.{boundsOf, boundsHold}
-use Rattle.place.specs.Info.{saidPrepared, infoIn, preparedIn}
+use Rattle.place.specs.Info.{infoIn, preparedIn, ofPlacing, saidPrepared}
 use Rattle.place.specs.declared.GlyphInfo.{GlyphInfo}
 use Rattle.place.specs.declared.Prepared.{Prepared}
+use Rattle.place.proofs.Refusals.{info-of-refusals, char-info-refusals}
 use Rattle.glyphs.specs.Glyph.{placeOf, okInfo, glyphDrawn, glyphReady, drawGlyph}
 use Rattle.glyphs.specs.Char.{withInfo, charOf, charReady, drawChar, saidChar}
 use Rattle.glyphs.specs.Unpack.{glyphUnpacked, unpackGlyph}
 use Rattle.utf8.specs.Decode.{Char, decoded, charsOf, checkedText}
 use Rattle.utf8.specs.declared.Checked.{Checked}
-use Rattle.utf8.proofs.Accepts.{refused-text}
+use Rattle.utf8.proofs.CheckedText.{refused-text}
 use Rattle.text.specs.Walk.{origin, placeInfo, placeFound, placed, placedDrawn, penAfter}
 use Rattle.text.specs.Text.{afterChar, textFrom, readyText, ready, whenReady, drawString, saidText}
 use Rattle.text.specs.declared.Layout.{Layout}
@@ -37,8 +38,7 @@ use Rattle.text.specs.declared.Pen.{Pen}
 use Rattle.text.specs.declared.Placed.{Placed}
 use Rattle.text.specs.declared.Ready.{Ready}
 use Rattle.text.specs.declared.TextDrawn.{TextDrawn}
-use Rattle.place.proofs.Refusals.{info-of-refusals, char-info-refusals}
-use Rattle.promises.specs.Refusals.{ofPlacing, ofDrawing, Refusals}
+use Rattle.promises.specs.Refusals.{ofDrawing, Refusals}
 use Rattle.promises.proofs.RecordTest.{guarded-refusals}
 
 -- past the tests
@@ -153,7 +153,7 @@ module _ (s : List ℕ) (rec : Record) where
     unfolding drawChar charReady
     draw-char-refusals =
         guarded-refusals s rec saidWith Prepared.Refused (λ r. refl) (okPlace at) (preparedIn s rec code) refl
-        (λ fits. placed-char (preparedIn s rec code) (char-info-refusals s (rec .metrics) (boundsOf rec) (rec .codes) code))
+        (λ fits. placed-char (preparedIn s rec code) (char-info-refusals s (rec .codes) (rec .metrics) (boundsOf rec) code))
 
   module _ (text : List ℕ) (len : ℕ) (lay : Layout) where
     -- what the tests before the first character say, with the rest

@@ -12,7 +12,7 @@ use Rattle.lookup.specs.declared.Found.{Found}
 use Rattle.lookup.proofs.Refusals.{glyph-of-refusals}
 use Rattle.names.specs.Names.{getName, saidNamed}
 use Rattle.names.specs.declared.Named.{Named}
-use Rattle.names.proofs.Refusals.{string-in-data, name-by-string}
+use Rattle.names.proofs.Refusals.{name-in-data}
 use Rattle.props.specs.Props.{propAt, saidProp}
 use Rattle.props.specs.declared.PropFound.{PropFound}
 use Rattle.props.proofs.Refusals.{prop-in-data}
@@ -21,14 +21,14 @@ use Rattle.metrics.specs.declared.Accelerated.{Accelerated}
 use Rattle.metrics.specs.declared.Measured.{Measured}
 use Rattle.metrics.proofs.Refusals.{metrics-of-refusals}
 use Rattle.place.specs.Bounds.{boundsOf, boundsHold, boundsSized, dimensions, saidSized}
-use Rattle.place.specs.Info.{prepChar, saidPrepared}
+use Rattle.place.specs.Info.{prepChar, ofPlacing, saidPrepared}
 use Rattle.place.specs.declared.Sized.{Sized}
 use Rattle.place.specs.declared.Prepared.{Prepared}
 use Rattle.place.proofs.Refusals.{char-info-refusals}
-use Rattle.frames.specs.Put.{frameInto, saidPrinted}
+use Rattle.frames.specs.Put.{frameInto, ofFrames, saidPrinted}
 use Rattle.frames.specs.declared.Printed.{Printed}
-use Rattle.frames.proofs.Refusals.{ofFrames, frame-numbered}
-use Rattle.promises.specs.Refusals.{ofPlacing, Refusals}
+use Rattle.frames.proofs.Refusals.{frame-numbered}
+use Rattle.promises.specs.Refusals.{Refusals}
 use Rattle.promises.proofs.RecordTest.{tested-refusals}
 
 -- the calls with a record
@@ -42,7 +42,7 @@ module _ (s : List ℕ) (rec : Record) where
   unfolding getName
   get-name-refusals g =
       tested-refusals s rec saidNamed Named.Refused (λ r. refl) _ refl
-      (λ fits. name-by-string s (rec .names) g (string-in-data s _ _ _ (name-strings (length s) rec fits)))
+      (λ fits. name-in-data s (rec .names) g (name-strings (length s) rec fits))
 
   pub prop-at-refusals : (i : ℕ) → Refusals s rec (6 ∷ 17 ∷ 18 ∷ []) (saidProp (propAt s rec i))
   unfolding propAt
@@ -65,7 +65,7 @@ module _ (s : List ℕ) (rec : Record) where
   pub prep-char-refusals : (code : ℕ) → Refusals s rec (6 ∷ 9 ∷ ofPlacing) (saidPrepared (prepChar s rec code))
   unfolding prepChar
   prep-char-refusals code =
-      tested-refusals s rec saidPrepared Prepared.Refused (λ r. refl) _ refl (λ fits. char-info-refusals s (rec .metrics) (boundsOf rec) (rec .codes) code)
+      tested-refusals s rec saidPrepared Prepared.Refused (λ r. refl) _ refl (λ fits. char-info-refusals s (rec .codes) (rec .metrics) (boundsOf rec) code)
 
   pub put-frame-refusals : (code room : ℕ) → Refusals s rec (6 ∷ ofFrames) (saidPrinted (frameInto s rec code room))
   unfolding frameInto

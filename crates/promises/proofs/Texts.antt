@@ -20,7 +20,7 @@ use Rattle.vet.specs.declared.Vetted.{Vetted}
 use Rattle.vet.proofs.Verdict.{passes-when}
 use Rattle.utf8.specs.Decode.{decoded, charsOf, checkedText}
 use Rattle.utf8.specs.declared.Checked.{Checked}
-use Rattle.utf8.proofs.Accepts.{well-whole}
+use Rattle.utf8.proofs.CheckedText.{well-whole}
 use Rattle.text.specs.Walk.{origin}
 use Rattle.text.specs.Text.{textFrom, inText, ready, drawString, stringLeaves, saidText}
 use Rattle.text.specs.declared.Layout.{Layout}

@@ -9,11 +9,7 @@ use Rattle.reads.specs.Said.{Said, NumberedBy}
 use Rattle.tables.specs.Fits.{recordFits}
 use Rattle.tables.specs.declared.Record.{Record}
 
--- the lists that several calls have
--- of a glyph placed, and drawn
-abbrev pub ofPlacing : List ℕ
-ofPlacing = 10 ∷ 11 ∷ []
-
+-- the numbers of a glyph that cannot be drawn
 abbrev pub ofDrawing : List ℕ
 ofDrawing = 13 ∷ 14 ∷ 16 ∷ []
 

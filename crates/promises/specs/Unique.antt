@@ -23,7 +23,7 @@ Fixes n ps r Contract =
 abbrev pub SamePart : RefT (List ℕ) → RefT (List ℕ) → Type 0
 SamePart p q = (now p ≡ now q) × (ptr p ≡ ptr q)
 
--- the same of a returned part of lent bytes
+-- a contract that allows one part alone, of a function that returns a part of lent bytes
 abbrev pub FixesPart : (n : ℕ) (ps : List (PK n)) (r : RK n) → Out n ps r → ((κs : Lfts n) → resT r κs .Denot → RefT (List ℕ)) → Type 0
 FixesPart n ps r Contract part =
     (κs : Lfts n) (a : Dens κs ps) (r₁ r₂ : resT r κs .Denot) (x₁ x₂ : AtExit (endedOf n ps r) κs)

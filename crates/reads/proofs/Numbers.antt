@@ -34,7 +34,7 @@ elem-more n (m ∷ ns) ms w e =
     let (here, rest) = both (elem m ms) (all-in ns ms) w in
     split (eqb n m) (λ t. rw (eqb-true n m t) here) (λ t. elem-more n ns ms rest (rw t at e))
 
-pub or-right : (a b : Bool) → b ≡ true → a || b ≡ true
+or-right : (a b : Bool) → b ≡ true → a || b ≡ true
 or-right true b e = refl
 or-right false b e = e
 

@@ -4,14 +4,15 @@ use mathlib.Core.Bool.{Bool, true, false, cond}
 use Prim.Native.Nat.{ℕ, zero, suc, _-_, _*_, _^_, _≤_, _<_}
 use native.Mathlib.Omega.{arith}
 use lib.Dec.{ltb}
-use lib.IntN.{ℤ, pos, negsuc, _-ℤ_}
-use lib.Signed.{mag}
+use lib.IntN.{ℤ, pos, negsuc, natAbs, _-ℤ_}
+use lib.Signed.{mag, natAbs-le}
 use mir.Syntax.{Width, w16}
 use mir.Val.{SFits, toZ, ofZ, bits, hbits, sel}
 use mir.ValLaws.{pow-bits}
 use mir.Facts.{toZ-pos, toZ-ofZ, sfits-toZ}
-use borrow.Author.Tests.{le-ltb}
+use borrow.Author.Tests.{le-ltb, ltb-true, ltb-false}
 use Rattle.reads.specs.Num.{signed, less128}
+use Rattle.reads.proofs.Tests.{split}
 
 -- a signed number survives the way through its bits
 pub back : (w : Width) (z : ℤ) → mag z < 2 ^ hbits w → toZ w (ofZ w z) ≡ z
@@ -71,3 +72,14 @@ shifted-fits b h = rw (metric-is b h) (metric-fits b h)
 
 pub shifted-is : (b : ℕ) → b < 256 → toZ w16 (ofZ w16 (toZ w16 b -ℤ pos 128)) ≡ less128 b
 shifted-is b h = rw (metric-is b h) (toZ-ofZ (metric-fits b h))
+
+-- neither form of a metric is further from 0 than 16 bits hold
+pub metric-small : (b : ℕ) → b < 256 → natAbs (less128 b) < 65536
+metric-small b h = omega (arith, natAbs-le (less128 b) (metric-fits b h .sfits))
+
+pub signed-small : (n : ℕ) → natAbs (signed 2 n) < 65536
+unfolding signed
+signed-small n =
+    split (ltb n 32768)
+    (λ t. rw t (omega (arith, ltb-true n 32768 t)))
+    (λ t. rw t (omega (arith, ltb-false n 32768 t)))

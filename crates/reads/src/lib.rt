@@ -145,8 +145,8 @@ pub fn metric_of(b: u8) -> i16
     (b as i16) - 128
 }
 
-// The place `offset` bytes after `start`, cut at `len`: past the end every read is 0, so that the
-// cut does not show.
+// The place `offset` bytes after `start`, cut at `len`: past the end every read is 0, so that in a
+// read the cut does not show.
 pub fn reach(len: usize, start: usize, offset: usize) -> usize
     ensures { λ r. ⌜ r ≡ min (start + offset) len ⌝ }
 {

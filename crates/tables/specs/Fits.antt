@@ -2,10 +2,10 @@
 -- bytes given, a code minimum above its maximum, a code region without room for all its entries, or a row pad other than 1, 2, 4, 8".
 use Prim.Native.Nat.{ℕ, _+_, _*_}
 use mathlib.Core.Bool.{Bool, cond, _&&_, _||_}
-use mathlib.Core.List.{List}
+use mathlib.Core.List.{List, []}
 use lib.ListN.{length}
 use lib.Dec.{leb, eqb}
-use Rattle.reads.specs.Said.{refusal}
+use Rattle.reads.specs.Said.{Said, refusal, says, refuses}
 use Rattle.reads.specs.declared.Refusal.{Refusal}
 use Rattle.tables.specs.Codes.{entryCount}
 use Rattle.tables.specs.Metrics.{metricBytes}
@@ -61,6 +61,11 @@ guarded refused s rec within answer = tested refused s rec (cond within answer (
 -- what these two tests say before there is an answer, by what they found: 6, 15, or go on
 unfoldable pub ladder : Bool → Bool → Permit
 ladder fits within = cond fits (cond within Permit.Given (Permit.Refused (refusal 15 0))) (Permit.Refused (refusal 6 0))
+
+-- to go on has no values
+abbrev pub saidPermit : Permit → Said
+saidPermit Permit.Given = says []
+saidPermit (Permit.Refused r) = refuses r
 
 abbrev pub guard : List ℕ → Record → Bool → Permit
 guard s rec within = ladder (recordFits (length s) rec) within

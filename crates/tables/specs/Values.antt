@@ -46,8 +46,8 @@ recordValues r =
     ++ (acceleratorValues (r .accel)
     ++ (metricsDataValues (r .metrics) ++ (bitmapsValues (r .bitmaps) ++ (codesValues (r .codes) ++ namesValues (r .names)))))
 
--- what was read of a table: its type, 0 for one that is not read, and the table's numbers; the place of a refusal is the entry's, which
--- loading adds
+-- what was read of a table: its type, 2 for either type of accelerators and 0 for one that is not read, and the table's numbers; the place
+-- of a refusal is the entry's, which loading adds
 abbrev pub saidTable : TableRead → Said
 saidTable (TableRead.Properties p) = says (pos 1 ∷ propsValues p)
 saidTable (TableRead.Accelerators a) = says (pos 2 ∷ acceleratorValues a)

@@ -28,7 +28,7 @@ use Rattle.place.proofs.Held.{held}
 use Rattle.place.proofs.Whole.{in-range-small}
 use Rattle.utf8.specs.Decode.{decoded, charsOf, checkedText}
 use Rattle.utf8.specs.declared.Checked.{Checked}
-use Rattle.utf8.proofs.Rest.{whole-walked}
+use Rattle.utf8.proofs.CheckedText.{whole-walked}
 use Rattle.utf8.proofs.Walk.{checked-whole}
 use Rattle.text.specs.Walk.{origin, lineHeight}
 use Rattle.text.specs.Text.{textFrom, inText, readyText, ready, drawString}

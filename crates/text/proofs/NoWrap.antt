@@ -1,18 +1,17 @@
 -- Why one number can stand for no wrap: no text reaches a width of 2^64 - 1 pixels, so a text set to wrap there has the answer and the
 -- pixels of one that never wraps. The font's numbers have to be bytes, for a compressed metric is as large as its byte.
 use Prim.Native.Nat.{ℕ, _+_, _*_, _<_}
-use mathlib.Core.Path.{_≡_, refl, ap, _∙_}
+use mathlib.Core.Path.{_≡_, refl, sym, ap, _∙_}
 use mathlib.Core.Bool.{Bool, true, false, _||_}
 use mathlib.Core.List.{List, [], _∷_}
 use native.Mathlib.Omega.{arith}
-use lib.Dec.{ltb, eqb, leb}
+use lib.Dec.{eqb, leb}
 use lib.IntN.{natAbs}
 use lib.ListN.{length}
-use lib.Signed.{natAbs-le}
-use borrow.Author.Tests.{ltb-true, ltb-false, lt-leb}
-use Rattle.reads.specs.Num.{byteAt, u16At, signed, less128}
+use borrow.Author.Tests.{eqb-true, lt-leb}
+use Rattle.reads.specs.Num.{byteAt, u16At}
 use Rattle.reads.specs.declared.GlyphIndex.{GlyphIndex}
-use Rattle.reads.proofs.Signed.{metric-fits}
+use Rattle.reads.proofs.Signed.{metric-small, signed-small}
 use Rattle.reads.proofs.Tests.{split, either}
 use Rattle.tables.specs.Metrics.{wideAt, narrowAt, metricBytes}
 use Rattle.tables.specs.declared.MetricsData.{MetricsData}
@@ -32,7 +31,7 @@ use Rattle.utf8.specs.Step.{stepAt}
 use Rattle.utf8.specs.declared.Checked.{Checked}
 use Rattle.utf8.specs.declared.Step.{Step}
 use Rattle.utf8.proofs.Walk.{step-within, Left, left-end, left-bad, left-char, left-all}
-use Rattle.text.specs.Walk.{origin, advanceOf, moved, wrapped, placeInfo, placeFound, placed, placedDrawn, penAfter, inPlaced}
+use Rattle.text.specs.Walk.{origin, advanceOf, moved, wrapOf, wrapped, placeInfo, placeFound, placed, placedDrawn, penAfter, inPlaced}
 use Rattle.text.specs.Text.{afterChar, textFrom, inText, readyText, ready, whenReady, drawString, stringLeaves}
 use Rattle.text.specs.Within.{Settled, PenIn, Moved, placedPen, Readable}
 use Rattle.text.specs.declared.Layout.{Layout}
@@ -44,21 +43,11 @@ use Rattle.text.specs.declared.Wrap.{Wrap}
 use Rattle.text.proofs.PenBounds.{pen-more, moved-in, moved-skip, moved-glyph, moved-refused, advance-most, settled-low}
 use Rattle.text.proofs.BeforeFirst.{is-settled, is-readable}
 
--- the same layout without a wrap
-abbrev pub unwrapped : Layout → Layout
-unwrapped lay = record { start = lay .start; wrap = Wrap.Never; stride = lay .stride; scale = lay .scale }
+-- the same layout with this wrap
+abbrev pub wrapping : Layout → Wrap → Layout
+wrapping lay w = record { start = lay .start; wrap = w; stride = lay .stride; scale = lay .scale }
 
 -- ---- in a font of bytes no glyph is wider than 16 bits hold
-
-narrow-small : (b : ℕ) → b < 256 → natAbs (less128 b) < 65536
-narrow-small b h = omega (arith, natAbs-le (less128 b) (metric-fits b h .sfits))
-
-wide-small : (n : ℕ) → natAbs (signed 2 n) < 65536
-unfolding signed
-wide-small n =
-    split (ltb n 32768)
-    (λ t. rw t (omega (arith, ltb-true n 32768 t)))
-    (λ t. rw t (omega (arith, ltb-false n 32768 t)))
 
 -- what was placed has no wider glyph
 abbrev Narrow : Placed → Type 0
@@ -71,8 +60,8 @@ module _ (s : List ℕ) (octets : Octets s) (rec : Record) where
   unfolding wideAt narrowAt
   width-small m g = by (m .compressed) where
     by : (narrow : Bool) → natAbs (measuredAt narrow (m .big) s (m .records + metricBytes narrow * g) .width) < 65536
-    by true = narrow-small (byteAt s (m .records + 5 * g + 2)) (octets .below (m .records + 5 * g + 2))
-    by false = wide-small (u16At (m .big) s (m .records + 12 * g + 4))
+    by true = metric-small (byteAt s (m .records + 5 * g + 2)) (octets .below (m .records + 5 * g + 2))
+    by false = signed-small (u16At (m .big) s (m .records + 12 * g + 4))
 
   module _ (lay : Layout) (pen : Pen) where
     info-narrow : (g : GlyphIndex) → Narrow (placeInfo rec lay pen (infoIn s rec g))
@@ -95,7 +84,7 @@ module _ (s : List ℕ) (octets : Octets s) (rec : Record) where
 
   module _ (lay : Layout) (w : ℕ) (wrap-is : lay .wrap ≡ Wrap.At w) (far : 274869518400 < w) where
     abbrev free : Layout
-    free = unwrapped lay
+    free = wrapping lay Wrap.Never
 
     -- what does not ask for the wrap
     drawn-same : (len : ℕ) (p : Placed) → placedDrawn s rec lay len p ≡ placedDrawn s rec free len p
@@ -236,13 +225,28 @@ module _ (s : List ℕ) (octets : Octets s) (rec : Record) where
 
 -- ---- the number with every bit set
 
-module _ (s : List ℕ) (octets : Octets s) (rec : Record) (text : List ℕ) (lay : Layout) (wrap-is : lay .wrap ≡ Wrap.At 18446744073709551615) where
-  -- the answer is that of no wrap
-  pub widest-is-none : (len : ℕ) → drawString s rec text len lay ≡ drawString s rec text len (unwrapped lay)
-  widest-is-none len = far-is-none s octets rec lay 18446744073709551615 wrap-is (omega arith) text len
+abbrev widest : ℕ
+widest = 18446744073709551615
 
-  -- and so are the pixels left
-  pub widest-leaves : (colour : ℕ) (old : List ℕ)
-      → stringLeaves s rec text lay colour (drawString s rec text (length old) lay) old
-      ≡ stringLeaves s rec text (unwrapped lay) colour (drawString s rec text (length old) (unwrapped lay)) old
-  widest-leaves colour old = far-leaves s octets rec lay 18446744073709551615 wrap-is (omega arith) text colour old
+module _ (s : List ℕ) (octets : Octets s) (rec : Record) (text : List ℕ) (lay : Layout) where
+  -- the answer with this wrap, and the pixels left
+  abbrev drawn : Wrap → ℕ → TextDrawn
+  drawn w len = drawString s rec text len (wrapping lay w)
+
+  abbrev leaves : Wrap → ℕ → List ℕ → List ℕ
+  leaves w colour old = stringLeaves s rec text (wrapping lay w) colour (drawn w (length old)) old
+
+  pub widest-is-none : (len : ℕ) → drawn (Wrap.At widest) len ≡ drawn Wrap.Never len
+  widest-is-none len = far-is-none s octets rec (wrapping lay (Wrap.At widest)) widest refl (omega arith) text len
+
+  pub widest-leaves : (colour : ℕ) (old : List ℕ) → leaves (Wrap.At widest) colour old ≡ leaves Wrap.Never colour old
+  widest-leaves colour old = far-leaves s octets rec (wrapping lay (Wrap.At widest)) widest refl (omega arith) text colour old
+
+  -- so that any number taken for a wrap is drawn as a wrap there
+  pub wrap-of-drawn : (n len : ℕ) → drawn (wrapOf n) len ≡ drawn (Wrap.At n) len
+  unfolding wrapOf
+  wrap-of-drawn n len = split (eqb n widest) (λ t. rw (eqb-true n widest t) (sym (widest-is-none len))) (λ t. rw t refl)
+
+  pub wrap-of-leaves : (n colour : ℕ) (old : List ℕ) → leaves (wrapOf n) colour old ≡ leaves (Wrap.At n) colour old
+  unfolding wrapOf
+  wrap-of-leaves n colour old = split (eqb n widest) (λ t. rw (eqb-true n widest t) (sym (widest-leaves colour old))) (λ t. rw t refl)

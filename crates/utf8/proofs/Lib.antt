@@ -5,5 +5,6 @@ pub mod Characters
 pub mod Walk
 pub mod Rest
 pub mod Accepts
+pub mod CheckedText
 pub mod Spells
 pub mod Refusals

@@ -1,17 +1,13 @@
--- The check of a whole text, by steps: its answer is that of the rest.
+-- The walk over a whole text, by steps: its answer is that of the rest.
 use Prim.Native.Nat.{ℕ, zero, suc, _-_, _<_, _≤_}
 use mathlib.Core.Path.{_≡_, refl, sym, ap, _∙_}
 use mathlib.Core.List.{List}
 use native.Mathlib.Omega.{arith}
 use lib.ListN.{length}
-use lib.Dec.{leb}
-use borrow.Author.Tests.{le-leb, lt-leb, leb-true, leb-false}
-use Rattle.reads.specs.Said.{refusal}
 use Rattle.reads.specs.declared.CharCode.{CharCode}
 use Rattle.reads.specs.declared.Refusal.{Refusal}
-use Rattle.reads.proofs.Tests.{split}
 use Rattle.utf8.specs.Step.{stepAt}
-use Rattle.utf8.specs.Decode.{Char, Decoded, chars, refused, consChar, afterStep, decodeFrom, decoded, checked, checkedText}
+use Rattle.utf8.specs.Decode.{Char, Decoded, chars, refused, consChar, afterStep, decodeFrom, decoded, checked}
 use Rattle.utf8.specs.declared.Checked.{Checked}
 use Rattle.utf8.specs.declared.Step.{Step}
 use Rattle.utf8.proofs.Walk.{step-within}
@@ -54,22 +50,3 @@ module _ (text : List ℕ) (i : ℕ) (a : Checked) (here : Step) (now : Answer t
 pub answer-all : (text : List ℕ) → Answer text 0 (checked (decoded text))
 unfolding decoded
 answer-all text = record { fuel = suc (length text); enough = omega arith; is = refl }
-
--- ---- a text that is too long is not walked over
-
-module _ (text : List ℕ) where
-  pub too-long : 65535 < length text → Checked.Refused (refusal 19 0) ≡ checkedText text
-  unfolding checkedText
-  too-long h = rw (lt-leb (length text) 65535 h)
-
-  pub short-enough : (r : Checked) → length text ≤ 65535 → r ≡ checked (decoded text) → r ≡ checkedText text
-  unfolding checkedText
-  short-enough r h is = rw (le-leb (length text) 65535 h) is
-
-  pub whole-walked : checkedText text ≡ Checked.Whole → (length text ≤ 65535) × (checked (decoded text) ≡ Checked.Whole)
-  whole-walked e =
-      split (leb (length text) 65535)
-      (λ t. let h = leb-true (length text) 65535 t in (h, short-enough (checked (decoded text)) h refl ∙ e))
-      (λ t.
-      let d : Checked.Refused (refusal 19 0) ≡ Checked.Whole = too-long (leb-false (length text) 65535 t) ∙ e in
-      let z : _≡_ {A = ℕ} 0 1 = cc in absurd (omega arith))

@@ -2,7 +2,7 @@
 use Prim.Native.Nat.{ℕ}
 use mathlib.Core.Path.{_≡_, refl, ap}
 use mathlib.Core.Bool.{true}
-use mathlib.Core.List.{List, [], _∷_, _++_}
+use mathlib.Core.List.{List, [], _∷_}
 use mathlib.Core.Logic.{⊎-elim}
 use lib.ListN.{length}
 use lib.Dec.{eqb}
@@ -13,34 +13,28 @@ use Rattle.reads.proofs.Tests.{split, either}
 use Rattle.tables.specs.Fits.{recordFits}
 use Rattle.tables.specs.declared.Record.{Record}
 use Rattle.tables.proofs.RecordParts.{prop-strings, name-strings}
-use Rattle.load.specs.Load.{loaded, saidLoaded}
+use Rattle.load.specs.Load.{loaded, ofLoading, saidLoaded}
 use Rattle.load.specs.declared.Loaded.{Loaded}
-use Rattle.load.proofs.Refusals.{ofLoading, load-pcf-refusals}
+use Rattle.load.proofs.Refusals.{load-pcf-refusals}
 use Rattle.load.proofs.Serves.{loaded-serves}
 use Rattle.lookup.specs.Lookup.{glyphOf}
 use Rattle.lookup.specs.declared.Found.{Found}
 use Rattle.names.specs.Names.{nameOf, saidNamed}
 use Rattle.names.specs.declared.Named.{Named}
-use Rattle.names.proofs.Refusals.{string-in-data, name-by-string}
+use Rattle.names.proofs.Refusals.{name-in-data}
 use Rattle.props.specs.Props.{propOf, saidProp}
 use Rattle.props.specs.declared.PropFound.{PropFound}
 use Rattle.props.proofs.Refusals.{prop-in-data}
 use Rattle.bitmaps.specs.Picture.{noBitmap, rowsShort}
 use Rattle.place.specs.Bounds.{boundsOf}
-use Rattle.place.specs.Info.{saidPrepared, infoIn}
+use Rattle.place.specs.Info.{infoIn, ofPlacing, saidPrepared}
 use Rattle.place.specs.declared.GlyphInfo.{GlyphInfo}
 use Rattle.place.specs.declared.Prepared.{Prepared}
 use Rattle.place.proofs.Refusals.{info-of-refusals}
-use Rattle.vet.specs.Vet.{foundProp, propFault, nameFault, boxFault, glyphFault, foundFault, codeFault, vetRecord, vetLoaded, vetted, saidVetted}
+use Rattle.vet.specs.Vet.{foundProp, propFault, nameFault, boxFault, glyphFault, foundFault, codeFault, vetRecord, vetLoaded, vetted, ofGlyphs, ofVetting, saidVetted}
 use Rattle.vet.specs.declared.Vetted.{Vetted}
 use Rattle.vet.proofs.FirstFault.{IsFirst}
 use Rattle.vet.proofs.Verdict.{Fails, refused-when}
-
-abbrev pub ofGlyphs : List ℕ
-ofGlyphs = 10 ∷ 11 ∷ 12 ∷ 14 ∷ 17 ∷ 18 ∷ []
-
-abbrev pub ofVetting : List ℕ
-ofVetting = ofLoading ++ (13 ∷ 11 ∷ 18 ∷ ofGlyphs)
 
 -- a fault is 0 or one of these
 abbrev FaultOf : List ℕ → ℕ → Type 0
@@ -66,12 +60,11 @@ module _ (s : List ℕ) (rec : Record) (fits : recordFits (length s) rec ≡ tru
   box-numbered i =
       either (FaultOf ofGlyphs) (noBitmap (rec .bitmaps) (i .glyph .0)) refl
       (either (FaultOf ofGlyphs) (rowsShort s (rec .bitmaps) (i .glyph .0) (i .width) (i .height)) refl
-      (name-fault (nameOf s (rec .names) (i .glyph .0))
-      (name-by-string s (rec .names) (i .glyph .0) (string-in-data s _ _ _ (name-strings (length s) rec fits)))))
+      (name-fault (nameOf s (rec .names) (i .glyph .0)) (name-in-data s (rec .names) (i .glyph .0) (name-strings (length s) rec fits))))
 
-  glyph-numbered : (p : Prepared) → NumberedBy (10 ∷ 11 ∷ []) (saidPrepared p) → FaultOf ofGlyphs (glyphFault s rec p)
+  glyph-numbered : (p : Prepared) → NumberedBy ofPlacing (saidPrepared p) → FaultOf ofGlyphs (glyphFault s rec p)
   glyph-numbered (Prepared.Info i) h = box-numbered i
-  glyph-numbered (Prepared.Refused r) h = elem-more (r .number) (10 ∷ 11 ∷ []) (0 ∷ ofGlyphs) refl (h .is)
+  glyph-numbered (Prepared.Refused r) h = elem-more (r .number) ofPlacing (0 ∷ ofGlyphs) refl (h .is)
 
   found-numbered : (f : Found) → FaultOf ofGlyphs (foundFault s rec f)
   found-numbered (Found.Glyph g) = glyph-numbered (infoIn s rec g) (info-of-refusals s (rec .metrics) (boundsOf rec) g)

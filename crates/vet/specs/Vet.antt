@@ -3,11 +3,11 @@
 -- and its place": "in vetting, for a property the property's number, for a code the code".
 use Prim.Native.Nat.{ℕ}
 use mathlib.Core.Bool.{cond}
-use mathlib.Core.List.{List}
+use mathlib.Core.List.{List, [], _∷_, _++_}
 use Rattle.reads.specs.Said.{Said, refusal, says, refuses}
 use Rattle.tables.specs.Values.{recordValues}
 use Rattle.tables.specs.declared.Record.{Record}
-use Rattle.load.specs.Load.{loaded}
+use Rattle.load.specs.Load.{loaded, ofLoading}
 use Rattle.load.specs.declared.Loaded.{Loaded}
 use Rattle.lookup.specs.Lookup.{glyphOf}
 use Rattle.lookup.specs.declared.Found.{Found}
@@ -82,6 +82,14 @@ vetLoaded s (Loaded.Refused r) = Vetted.Refused r
 -- `vet`: "A passed font is such bytes with the record that loading gave for them"
 unfoldable pub vetted : List ℕ → Vetted
 vetted s = vetLoaded s (loaded s)
+
+-- the numbers of a refusal: "10, 11, 12, 14 over all rows, 17, 18" of a code's glyph, and before these "13; the bounds hold (11); every
+-- property's strings end (18)"
+abbrev pub ofGlyphs : List ℕ
+ofGlyphs = 10 ∷ 11 ∷ 12 ∷ 14 ∷ 17 ∷ 18 ∷ []
+
+abbrev pub ofVetting : List ℕ
+ofVetting = ofLoading ++ (13 ∷ 11 ∷ 18 ∷ ofGlyphs)
 
 abbrev pub saidVetted : Vetted → Said
 saidVetted (Vetted.Passed r) = says (recordValues r)

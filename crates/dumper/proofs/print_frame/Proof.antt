@@ -1,6 +1,6 @@
 use borrow.Author.Needs.{needs}
 use Rattle.dumper.proofs.LineCounts.{frame-within, counted}
-use Rattle.dumper.proofs.FramesFit.{frame-fits}
+use Rattle.dumper.proofs.FramesFit.{no-other-refusal}
 use Rattle.dumper.proofs.print_frame.Statement.{statement}
 use Rattle.dumper.proofs.print_frame.Tie as tie
 
@@ -14,7 +14,7 @@ print-frame-spec =
     (λ c. search (counted, frame-within))  -- slice-aggregate-write-all
     (λ c κs. search needs)  -- write-all-requires
     (λ c. search needs)  -- enum-known-r
-    (λ c κs. search frame-fits)  -- unreached-requires
+    (λ c κs. search no-other-refusal)  -- unreached-requires
     (λ c. search needs)  -- same-length
     (λ c. search needs)  -- returns
     (λ c. search needs)  -- same-length-2

@@ -1,9 +1,13 @@
 -- The length that the code computes is that of the line.
+use Prim.Native.Nat.{_<_}
 use borrow.Author.Needs.{needs}
-use Rattle.reads.proofs.Places.{known}
 use Rattle.frames.proofs.Lines.{line-named, name-long, line-long, line-room, line-said}
 use Rattle.frames.proofs.frame_line.put_line.Statement.{statement}
 use Rattle.frames.proofs.frame_line.put_line.Tie as tie
+
+-- what is asked of the code, as at the entry
+four-digits : (entry : tie.Start) → entry .args .code .0 < 65536
+four-digits entry = entry .pre .1
 
 pub put-line-spec : {M : Type 1} → statement M
 put-line-spec =
@@ -17,6 +21,6 @@ put-line-spec =
     (λ c. search needs)  -- add-fields
     (λ c. search needs)  -- add-if2
     (λ c. search line-long)  -- returns-2
-    (λ c κs. (search line-named, (search line-room, known tie.Start (search) .pre .1)))  -- put-fields-requires
+    (λ c κs. (search line-named, (search line-room, four-digits (search))))  -- put-fields-requires
     (λ c. search needs)  -- same-length
     (λ c. search line-said))  -- returns-3

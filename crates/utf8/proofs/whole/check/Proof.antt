@@ -1,4 +1,4 @@
-use Rattle.utf8.proofs.Rest.{too-long, short-enough}
+use Rattle.utf8.proofs.CheckedText.{too-long, short-enough}
 use borrow.Author.Needs.{needs}
 use Rattle.utf8.proofs.whole.check.Statement.{statement}
 use Rattle.utf8.proofs.whole.check.Tie as tie
