@@ -5,10 +5,11 @@ font, the texts, the calls; crates/replay/src/calls.rt says where in a call each
 import model
 
 CALL = 64  # bytes of a call
+DRAWING = ["draw_bitmap", "draw_glyph", "draw_char", "unpack_glyph", "prep_char", "show_glyph", "draw_string", "step_at"]
 READING = ["load_pcf", "prop_at", "get_glyph", "get_name", "get_metrics", "dimensions", "accelerators", "name_bytes",
            "all_codes"]
-KINDS = ["change", "draw_bitmap", "draw_glyph", "draw_char", "unpack_glyph", "prep_char", "show_glyph",
-         "draw_string", "step_at", *READING]
+PUTTING = ["check", "put_frame", "put_refused", "fill_bytes"]
+KINDS = ["change", *DRAWING, *READING, *PUTTING]
 # the record's fields as crates/replay/src/changes.rt numbers them
 FIELDS = """props.records props.strings props.size metrics.records bitmaps.offsets bitmaps.bits bitmaps.size
     codes.entries codes.size names.offsets names.strings names.size
@@ -19,6 +20,7 @@ FIELDS = """props.records props.strings props.size metrics.records bitmaps.offse
     metrics.big metrics.compressed bitmaps.big bitmaps.top codes.big""".split()
 COLOURS = [1, 0, 4294967295, 2147483648, 99, 107, 305419896]  # none is a value that a pixel has before
 MOST = 4096  # pixels; with a longer buffer the dry run alone is made
+ROOM = 64  # bytes of the buffer that bytes are put into
 LAST = 2 ** 64 - 1
 
 # ---- calls
@@ -56,6 +58,22 @@ def prep(code):
 def asks(call, **arguments):
     """a call that reads"""
     return {"call": call, **arguments}
+
+
+def frame(code, room):
+    return {"call": "put_frame", "code": code, "len": room}
+
+
+def refused(number, room):
+    return {"call": "put_refused", "code": number, "len": room}
+
+
+def fill(content, room):
+    return {"call": "fill_bytes", "text": content, "len": room}
+
+
+def check(content):
+    return {"call": "check", "text": content}
 
 
 def but(call, **arguments):

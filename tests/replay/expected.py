@@ -37,6 +37,12 @@ READING = {
     "name_bytes": [],
     "all_codes": [],
 }
+PUTTING = {
+    "check": [19],
+    "put_frame": [6, 9, 10, 11, 12, 13, 14, 15, 17, 18],
+    "put_refused": [15],
+    "fill_bytes": [15, 20],
+}
 
 
 # ---- what the model answers
@@ -109,15 +115,6 @@ def read_numbers(b, rec, c):
     return model.dimensions(b, rec)
 
 
-def name_bytes(b, rec, g):
-    """none where the name is refused"""
-    try:
-        start, length = model.get_name(b, rec, g)
-    except model.Refused:
-        return b""
-    return b[start:start + length]
-
-
 def found(b, rec, c):
     """the answer in words of a call that draws nothing"""
     if c["call"] == "prep_char":
@@ -129,12 +126,39 @@ def found(b, rec, c):
         found = [code for code in range(65536) if model.lookup(b, rec, code) is not None]
         return "have a glyph:" + "".join(" %d" % code for code in found)
     if c["call"] == "name_bytes":
-        return '"%s"' % name_bytes(b, rec, c["g"]).decode("ascii")
+        return '"%s"' % bytes(model.name_bytes(b, rec, c["g"])[1]).decode("ascii")
+    if c["call"] == "check":
+        model.check(c["text"])
+        return "whole"
     return " ".join(map(str, read_numbers(b, rec, c)))
+
+
+def put(b, rec, c, lent):
+    """how many bytes are put into the buffer, and the buffer then"""
+    if c["call"] == "put_frame":
+        return model.put_frame(b, rec, c["code"], lent)
+    if c["call"] == "put_refused":
+        return model.put_refused(c["code"], lent)
+    return model.fill_bytes(c["text"], lent)
+
+
+def put_words(b, rec, c):
+    """the answer in words with the whole buffer, and the number that it is refused with or 0"""
+    old, number = before(calls.ROOM), 0
+    new = lent = old[:c["len"]]
+    try:
+        count, new = put(b, rec, c, lent)
+        words = "bytes %d" % count
+    except model.Refused as r:
+        words, number = str(r), r.number
+    return '%s; buffer "%s"' % (words, bytes(new + old[len(new):]).decode("ascii")), number
 
 
 def line(b, rec, c, colour):
     """what is written of a call, and the number that it is refused with or 0"""
+    if c["call"] in PUTTING and "len" in c:
+        words, number = put_words(b, rec, c)
+        return "%-12s %s" % (c["call"], words), number
     if "len" not in c:
         try:
             return "%-12s %s" % (c["call"], found(b, rec, c)), 0
@@ -199,21 +223,24 @@ def counted(seen, kinds):
 
 
 def main():
-    groups = drawn, read, recorded = make.drawn(), make.read(), make.recorded()
+    groups = drawn, read, put_in, recorded = make.drawn(), make.read(), make.put(), make.recorded()
     seen = [collections.Counter() for _ in groups]
     want = {("replay", "args"): "".join(name + "\n" for group in groups for name in group).encode(),
             ("replay", "stdout"): b"".join(map(output, groups, seen))}
     check_refusals(seen[0], DRAWING)
     check_refusals(seen[1], READING)
+    check_refusals(seen[2], PUTTING)
     write, files = sys.argv[1:] == ["--write"], make.files()
     if write:
         stored.store_data("replay", files)
     stored.hold_data("replay", files)
     stored.hold(want, write)
-    print("replay: %d calls that draw in %d files, %d that read in %d and %d recorded ones in %d are as made, and the "
-          "output agrees with the model; one font in %d orders has one answer to each call" % (
+    print("replay: %d calls that draw in %d files, %d that read in %d, %d that put bytes or check a text in %d and %d "
+          "recorded ones in %d are as made, and the output agrees with the model; one font in %d orders has one answer to "
+          "each call" % (
               counted(seen[0], DRAWING), len(drawn), counted(seen[1], READING), len(read),
-              counted(seen[2], {**DRAWING, **READING}), len(recorded), one_picture(drawn)))
+              counted(seen[2], PUTTING), len(put_in), counted(seen[3], {**DRAWING, **READING}), len(recorded),
+              one_picture(drawn)))
 
 
 if __name__ == "__main__":

@@ -9,8 +9,8 @@ from pcf.font_f import two_digits
 from pcf.numbers import BIG
 from pcf.tables import row_bytes
 from replay.boxes import large, mixed, shapes, widths
-from replay.calls import (KINDS, LAST, MOST, READING, bitmap, box, but, char, damages, each, fitting, glyph, prep,
-                          show, unpack)
+from replay.calls import (DRAWING, LAST, MOST, bitmap, box, but, char, damages, each, fitting, glyph, prep, show,
+                          unpack)
 
 CASES = os.path.join(os.path.dirname(os.path.dirname(os.path.abspath(__file__))), "definitions")
 
@@ -280,8 +280,7 @@ def of_definitions():
         cases = [json.loads(line) for line in f]
     for number, b in enumerate(listed):
         # a record of another font is no record that this one's loading gives
-        calls = [c for c in cases if c["call"] in KINDS and c["call"] not in READING and "text" not in c
-                 and c["font"] == number and "of" not in c]
+        calls = [c for c in cases if c["call"] in DRAWING and "text" not in c and c["font"] == number and "of" not in c]
         if calls:
             yield b, calls
 

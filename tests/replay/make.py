@@ -1,7 +1,7 @@
 """The files of crates/replay/data: fonts, and calls on each."""
 from fonts import questions as reading
 from recorded import questions as recorded_ones
-from replay import glyphs, orders, texts
+from replay import glyphs, lines, orders, texts
 from replay.calls import content
 
 
@@ -18,10 +18,14 @@ def read():
     return named(reading.topics())
 
 
+def put():
+    return named(lines.topics())
+
+
 def recorded():
     """the calls to which the answers of 000 are kept, in tests/recorded"""
     return named(recorded_ones.topics())
 
 
 def files():
-    return {name: content(sections) for name, sections in {**drawn(), **read(), **recorded()}.items()}
+    return {name: content(sections) for name, sections in {**drawn(), **read(), **put(), **recorded()}.items()}

@@ -10,6 +10,7 @@ use glyphs::CharDrawn;
 use place::GlyphInfo;
 use place::Prepared;
 use text::TextDrawn;
+use utf8::Checked;
 use utf8::Step;
 
 fn row_words(rows: Rows) {
@@ -70,6 +71,13 @@ pub(crate) fn stepped(answer: Step) {
         Step::Char(code, next) => say_with(b"code #, next #", &[code.0 as usize, next]),
         Step::End => say(b"end"),
         Step::Refused(r) => refusal(r),
+    }
+}
+
+pub(crate) fn checked(answer: Checked) {
+    match answer {
+        Checked::Whole => say(b"whole"),
+        Checked::Refused(r) => refusal(r),
     }
 }
 

@@ -4,7 +4,7 @@
 //      0  the kind
 //      1  of a change the field, see `changes`; of a text 1 if it wraps
 //      2  the glyph
-//      4  the code, or a property's number; of a text its place, counted from the font's first byte
+//      4  the code, a property's number, or a refusal's; of a text its place, counted from the font's first byte
 //      8  the width; of a change the value; of a text where it wraps
 //     16  the height; of a text its length
 //     24  the pads, at the top and at the left
@@ -56,6 +56,14 @@ pub(crate) const ACCELERATORS: u8 = 15;
 pub(crate) const NAME_BYTES: u8 = 16;
 
 pub(crate) const CODES: u8 = 17;
+
+pub(crate) const CHECK: u8 = 18;
+
+pub(crate) const FRAME: u8 = 19;
+
+pub(crate) const REFUSED: u8 = 20;
+
+// 21, filling a buffer with the bytes of lines, is what is left of the kinds that put bytes.
 
 pub(crate) fn kind_at(c: &[u8]) -> u8 {
     byte_at(c, 0, 0)

@@ -1,8 +1,12 @@
 // The calls on one font, a line each.
+use crate::answers::checked;
 use crate::answers::prepared;
 use crate::answers::stepped;
 use crate::calls::CALL;
 use crate::calls::CHANGE;
+use crate::calls::CHECK;
+use crate::calls::CODES;
+use crate::calls::FRAME;
 use crate::calls::LOAD;
 use crate::calls::PREP;
 use crate::calls::STEP;
@@ -12,6 +16,7 @@ use crate::calls::size_at;
 use crate::calls::text_of;
 use crate::changes::changed;
 use crate::drawing::drawing;
+use crate::putting::putting;
 use crate::reading::reading;
 use console::number;
 use console::refusal_line;
@@ -29,18 +34,20 @@ fn name(kind: u8) {
     let names =
         b"change       draw_bitmap  draw_glyph   draw_char    unpack_glyph prep_char    show_glyph   \
         draw_string  step_at      load_pcf     prop_at      get_glyph    get_name     get_metrics  dimensions   \
-        accelerators name_bytes   all_codes    ";
+        accelerators name_bytes   all_codes    check        put_frame    put_refused  fill_bytes   ";
     say(part_of(names, Span { start, len: 13 }));
 }
 
-// The kinds that read come last.
+// Kinds that draw, then those that read, then those that put bytes into a buffer.
 fn one_call(font: &[u8], rec: Record, c: &[u8], text: &[u8]) {
     let kind = kind_at(c);
     name(kind);
     match kind {
         PREP => prepared(place::prep_char(font, rec, code_at(c))),
         STEP => stepped(utf8::step_at(text, size_at(c, 40))),
-        LOAD..=255 => reading(font, rec, c),
+        LOAD..=CODES => reading(font, rec, c),
+        CHECK => checked(utf8::check(text)),
+        FRAME..=255 => putting(font, rec, c, text),
         _ => drawing(font, rec, c, text),
     }
     say(b"\n");

@@ -45,8 +45,8 @@ fn rows_answer(drawn: Drawn) -> RowsAnswer
     }
 }
 
-// Draws a glyph's bitmap at `start`, as `paint::draw_bitmap` does. Refused, with place 0 and no pixel coloured: 6, 15, 12,
-// 13, 14, 16.
+// Draws a glyph's bitmap at `start`, as `paint::draw_bitmap` does. Refused, with place 0 and no pixel coloured: 6, 15,
+// 12, 13, 14, 16.
 #[no_mangle]
 pub extern "C" fn thk_draw_bitmap(
     bytes: &[u8],
@@ -118,8 +118,8 @@ fn char_answer(drawn: CharDrawn) -> CharAnswer
     }
 }
 
-// Draws a character, as `glyphs::draw_char` does. Refused, with place 0 and no pixel coloured: 6, 15, 9, 10, 11, 13, 14,
-// 16.
+// Draws a character, as `glyphs::draw_char` does. Refused, with place 0 and no pixel coloured: 6, 15, 9, 10, 11, 13,
+// 14, 16.
 #[no_mangle]
 pub extern "C" fn thk_draw_char(
     bytes: &[u8],
@@ -155,8 +155,8 @@ fn unpack_answer(unpacked: Unpacked) -> UnpackAnswer
     }
 }
 
-// Stores 1 for each set bit of a placed glyph's whole row bytes, as `glyphs::unpack_glyph` does. Refused, with place 0 and
-// no byte changed: 6, 15, 13, 14, 16.
+// Stores 1 for each set bit of a placed glyph's whole row bytes, as `glyphs::unpack_glyph` does. Refused, with place 0
+// and no byte changed: 6, 15, 13, 14, 16.
 #[no_mangle]
 pub extern "C" fn thk_unpack_glyph(
     bytes: &[u8],

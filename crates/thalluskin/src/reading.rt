@@ -49,8 +49,8 @@ fn font_answer(loaded: Loaded) -> FontAnswer
     }
 }
 
-// The record of a font file, as `load::load_pcf` answers it. Refused with the first of: 1, 2, 3, 4; entry by entry, with
-// the entry's number from 0 as the place, 5, 6 (in a code table 6 for its header, 7, 6 for its entries); 8.
+// The record of a font file, as `load::load_pcf` answers it. Refused with the first of: 1, 2, 3, 4; entry by entry,
+// with the entry's number from 0 as the place, 5, 6 (in a code table 6 for its header, 7, 6 for its entries); 8.
 #[no_mangle]
 pub extern "C" fn thk_load(bytes: &[u8]) -> FontAnswer
     ensures { λ r. ⌜ r ≡ fontAnswer (recordOf (now (bytes .entry)) false) ⌝ }

@@ -37,8 +37,9 @@ fn text_answer(drawn: TextDrawn) -> TextAnswer
     }
 }
 
-// Draws a text, as `text::draw_string` does; `wrap` with every bit set is none. Refused, with no pixel coloured: 6, 15, 19, 11
-// of the bounds; then the first character with one decides, and the byte where it starts is the place: 10, 11, 13, 14, 16.
+// Draws a text, as `text::draw_string` does; `wrap` with every bit set is none. Refused, with no pixel coloured: 6, 15,
+// 19, 11 of the bounds; then the first character with one decides, and the byte where it starts is the place: 10, 11,
+// 13, 14, 16.
 #[no_mangle]
 pub extern "C" fn thk_draw_string(
     bytes: &[u8],
@@ -86,8 +87,8 @@ pub extern "C" fn thk_text_check(
     text_answer(text_check(bytes, rec, text, len, start, at, stride, scale))
 }
 
-// The character at byte `i` and the place after it, or the end, as `utf8::step_at` answers it. Refused: 19, with `i` as the
-// place.
+// The character at byte `i` and the place after it, or the end, as `utf8::step_at` answers it. Refused: 19, with `i` as
+// the place.
 #[no_mangle]
 pub extern "C" fn thk_utf8_step(text: &[u8], i: usize) -> StepAnswer
     ensures { λ r. ⌜ r ≡ stepAnswer (stepAt (now (text .entry)) i) ⌝ }

@@ -41,8 +41,8 @@ fn unpack_byte(buf: &mut [u8], byte: u8, at: usize)
     }
 }
 
-// Unpacks one byte of each of n rows, of which row r's stands at byte `first` + r × `step` of the file. Any place here is
-// far below 2^60, so no sum leaves 64 bits.
+// Unpacks one byte of each of n rows, of which row r's stands at byte `first` + r × `step` of the file. Any place here
+// is far below 2^60, so no sum leaves 64 bits.
 fn strip(
     s: &[u8],
     order: Order,
@@ -70,8 +70,8 @@ fn strip(
     }
 }
 
-// Unpacks the n rows of which row r begins at byte `first` + r × `step` of the file: byte by byte of a row, and for each
-// byte row by row, since which byte holds eight columns is the same for all rows.
+// Unpacks the n rows of which row r begins at byte `first` + r × `step` of the file: byte by byte of a row, and for
+// each byte row by row, since which byte holds eight columns is the same for all rows.
 fn unpack_rows(
     s: &[u8],
     order: Order,
