@@ -1,31 +1,51 @@
--- In a font that passed vetting every code with a glyph has a frame, so that 9 is the one refusal left.
+-- A frame lacks what vetting finds fault with: in a font that passed every code with a glyph has a frame, so that 9 is the one refusal left.
 use Prim.Native.Nat.{ℕ, _+_, _*_, _≤_}
 use mathlib.Core.Path.{_≡_, refl, ap, _∙_}
-use mathlib.Core.Bool.{true}
+use mathlib.Core.Bool.{true, false}
 use mathlib.Core.List.{List}
 use native.Mathlib.Omega.{arith}
 use lib.ListN.{length}
 use borrow.Author.Tests.{le-ltb}
 use Rattle.reads.specs.declared.Refusal.{Refusal}
+use Rattle.reads.proofs.Tests.{split}
 use Rattle.tables.specs.Fits.{recordFits}
 use Rattle.tables.specs.declared.Record.{Record}
 use Rattle.load.proofs.Serves.{loaded-serves}
 use Rattle.lookup.specs.Lookup.{glyphOf}
 use Rattle.lookup.specs.declared.Found.{Found}
 use Rattle.lookup.proofs.Refusals.{no-glyph-nine}
+use Rattle.names.specs.Names.{nameOf}
+use Rattle.names.specs.declared.Named.{Named}
 use Rattle.metrics.specs.Measure.{glyphMetrics}
+use Rattle.bitmaps.specs.Picture.{noBitmap, unreadable, rowsShort}
 use Rattle.place.specs.Bounds.{boundsOf}
-use Rattle.place.specs.Info.{boxOf, prepared}
+use Rattle.place.specs.Info.{boxOf, prepared, saidPrepared}
+use Rattle.place.specs.declared.GlyphInfo.{GlyphInfo}
 use Rattle.place.specs.declared.Prepared.{Prepared}
-use Rattle.vet.specs.Vet.{vetted}
+use Rattle.vet.specs.Vet.{nameFault, boxFault, vetted}
 use Rattle.vet.specs.declared.Vetted.{Vetted}
 use Rattle.vet.proofs.PassedCodes.{passed-usable, usable-info}
 use Rattle.vet.proofs.Verdict.{passes-when}
 use Rattle.frames.specs.Frames.{frame}
-use Rattle.frames.specs.Whole.{wholeBox, wholeGlyph}
+use Rattle.frames.specs.Whole.{whenNamed, wholeBox, wholeGlyph}
 use Rattle.frames.specs.Put.{glyphInto, frameInto}
 use Rattle.frames.specs.declared.Printed.{Printed}
 use Rattle.frames.proofs.FrameRoom.{frame-room}
+
+-- where rows can be read at all (13), of a placed glyph the two find the same
+module _ (s : List ℕ) (rec : Record) (i : GlyphInfo) (readable : unreadable (rec .bitmaps) ≡ false) where
+  named-alike : (n : Named) → saidPrepared (whenNamed n (Prepared.Info i)) .number ≡ nameFault n
+  named-alike (Named.Name p) = refl
+  named-alike (Named.Refused r) = refl
+
+  pub lacks-fault : saidPrepared (wholeBox s rec i) .number ≡ boxFault s rec i
+  unfolding wholeBox boxFault
+  lacks-fault =
+      let b = rec .bitmaps in
+      let g = i .glyph .0 in
+      rw readable
+      (split (noBitmap b g) (λ t. rw t refl)
+      (λ t. split (rowsShort s b g (i .width) (i .height)) (λ u. rw (t, u) refl) (λ u. rw (t, u) (named-alike (nameOf s (rec .names) g)))))
 
 -- a code of which a frame lacks something has no glyph
 pub passed-whole : (s : List ℕ) (rec : Record) → vetted s ≡ Vetted.Passed rec

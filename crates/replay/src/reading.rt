@@ -89,10 +89,10 @@ fn sized(answer: Sized) {
 }
 
 // The code, where it has a glyph.
-fn with_glyph(font: &[u8], rec: Record, code: u32) {
-    let found = lookup::get_glyph(font, rec, CharCode(code));
+fn with_glyph(font: &[u8], rec: Record, code: CharCode) {
+    let found = lookup::get_glyph(font, rec, code);
     match found {
-        Found::Glyph(_) => number(b" ", code as usize),
+        Found::Glyph(_) => number(b" ", code.0 as usize),
         Found::Refused(_) => {}
     }
 }
@@ -101,7 +101,7 @@ fn with_glyph(font: &[u8], rec: Record, code: u32) {
 fn all_codes(font: &[u8], rec: Record) {
     let mut code: u32 = 0;
     while code < 65536 {
-        with_glyph(font, rec, code);
+        with_glyph(font, rec, CharCode(code));
         code += 1;
     }
 }
