@@ -59,11 +59,10 @@ pub(crate) const CODES: u8 = 17;
 
 pub(crate) const CHECK: u8 = 18;
 
+// 21, filling a buffer with the bytes of lines, is what is left of the kinds that put bytes.
 pub(crate) const FRAME: u8 = 19;
 
 pub(crate) const REFUSED: u8 = 20;
-
-// 21, filling a buffer with the bytes of lines, is what is left of the kinds that put bytes.
 
 pub(crate) fn kind_at(c: &[u8]) -> u8 {
     byte_at(c, 0, 0)
