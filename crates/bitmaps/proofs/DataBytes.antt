@@ -9,13 +9,12 @@ use lib.Seq.{getD-take, getD-drop}
 use mir.Syntax.{w64}
 use mir.Val.{Fits}
 use borrow.Author.Tests.{ltb-true, ltb-false}
-use Rattle.reads.specs.Num.{byteAt}
+use Rattle.reads.specs.Num.{byteAt, Octets}
 use Rattle.reads.proofs.Tests.{split}
 use Rattle.tables.specs.declared.BitmapData.{BitmapData}
 use Rattle.bitmaps.specs.Units.{orderOf, rowByte}
 use Rattle.bitmaps.specs.declared.Order.{Order}
 use Rattle.bitmaps.specs.Picture.{bitsOf}
-use Rattle.bitmaps.proofs.UnitBits.{Octets}
 use Rattle.bitmaps.proofs.ShownBytes.{same-bytes, no-bytes}
 
 -- a part of bytes is bytes

@@ -5,7 +5,7 @@ use mathlib.Core.Bool.{Bool, false}
 use mathlib.Core.List.{List}
 use native.Mathlib.Omega.{arith}
 use lib.ListN.{length}
-use Rattle.reads.specs.Num.{byteAt}
+use Rattle.reads.specs.Num.{byteAt, Octets}
 use Rattle.tables.specs.declared.BitmapData.{BitmapData}
 use Rattle.bitmaps.specs.Units.{orderOf, bitIndex, bitAt, byteOf}
 use Rattle.bitmaps.specs.Rows.{rowStride, rowEnd, column}
@@ -13,7 +13,7 @@ use Rattle.bitmaps.specs.Unpack.{wholeColumns}
 use Rattle.bitmaps.specs.Place.{Place}
 use Rattle.bitmaps.specs.Dots.{someDot}
 use Rattle.bitmaps.specs.Picture.{bitsOf, offsetOf, rowOf, rowsShort, glyphBit}
-use Rattle.bitmaps.proofs.UnitBits.{Octets, bit-held}
+use Rattle.bitmaps.proofs.UnitBits.{bit-held}
 use Rattle.bitmaps.proofs.RowEnds.{end-above-whole, end-reached}
 use Rattle.bitmaps.proofs.DataBytes.{data-length, data-byte, data-octets}
 use Rattle.bitmaps.proofs.RowsInside.{rows-inside}

@@ -10,6 +10,7 @@ use mir.Syntax.{w64}
 use mir.Val.{Fits}
 use borrow.Author.Tests.{eqb-false}
 use borrow.Rule.Slice.PartMut.{putMid}
+use Rattle.reads.specs.Num.{Octets}
 use Rattle.tables.specs.declared.BitmapData.{BitmapData}
 use Rattle.bitmaps.specs.Paint.{painted}
 use Rattle.bitmaps.specs.Units.{orderOf}
@@ -23,7 +24,6 @@ use Rattle.bitmaps.specs.Picture.{bitsOf, offsetOf, rowsShort, glyphBit,
 use Rattle.bitmaps.proofs.Searching.{or-neither}
 use Rattle.bitmaps.proofs.Painting.{painted-same, lent-length}
 use Rattle.bitmaps.proofs.Shift.{past-room, lent-painted}
-use Rattle.bitmaps.proofs.UnitBits.{Octets}
 use Rattle.bitmaps.proofs.RowEnds.{end-reached}
 use Rattle.bitmaps.proofs.InFile.{row-in-file, dots-in-file}
 use Rattle.bitmaps.proofs.LastByte.{glyph-short}

@@ -8,13 +8,13 @@ use native.Mathlib.Nat.{eq-or-lt-of-le, le-of-suc-le-suc, not-suc-le-zero, div-d
 use native.Mathlib.Omega.{arith}
 use lib.Dec.{eqb}
 use borrow.Author.Tests.{eqb-true}
-use Rattle.reads.specs.Num.{byteAt, digitIndex, digitAt, digits}
+use Rattle.reads.specs.Num.{byteAt, digitIndex, digitAt, digits, Octets}
 use Rattle.bitmaps.specs.Paint.{some}
 use Rattle.bitmaps.specs.Units.{unitBytes, unitStart, bitIndex, bitAt, byteOf, packed, rowByte, turned, shownByte}
 use Rattle.bitmaps.specs.Rows.{column}
 use Rattle.bitmaps.specs.declared.Order.{Order}
 use Rattle.bitmaps.proofs.Searching.{below-test}
-use Rattle.bitmaps.proofs.UnitBits.{Octets, bit-held, eight-bit, same-held}
+use Rattle.bitmaps.proofs.UnitBits.{bit-held, eight-bit, same-held}
 
 -- ---- bits put together
 

@@ -10,7 +10,7 @@ use lib.Dec.{eqb, leb}
 use lib.ListN.{length}
 use mir.Syntax.{w64}
 use mir.Val.{Fits}
-use Rattle.reads.specs.Num.{byteAt}
+use Rattle.reads.specs.Num.{byteAt, Octets}
 use Rattle.reads.proofs.Tests.{never, split}
 use Rattle.bitmaps.specs.Paint.{some, painted}
 use Rattle.bitmaps.specs.Place.{Place, placeAt, columnPlace}
@@ -22,7 +22,6 @@ use Rattle.bitmaps.specs.declared.Order.{Order}
 use Rattle.bitmaps.proofs.Searching.{or-neither, some-none, some-same, some-or}
 use Rattle.bitmaps.proofs.Pieces.{some-pieces}
 use Rattle.bitmaps.proofs.Painting.{length-painted, painted-none, painted-in-turn}
-use Rattle.bitmaps.proofs.UnitBits.{Octets}
 use Rattle.bitmaps.proofs.RowEnds.{end-above}
 use Rattle.bitmaps.proofs.ShownBytes.{bit-of-byte, held-shown, blank-shown, blank-column}
 use Rattle.bitmaps.proofs.Pixels.{dot-true, dot-found}

@@ -7,17 +7,13 @@ use native.Mathlib.Nat.{div-div-eq-div-mul, mod-def, div-add-mod, mod-lt, mul-as
 use native.Mathlib.Omega.{arith}
 use lib.Dec.{eqb}
 use borrow.Author.Tests.{eqb-true}
-use Rattle.reads.specs.Num.{byteAt, digitIndex, digitAt, digits}
+use Rattle.reads.specs.Num.{byteAt, digitIndex, digitAt, digits, Octets}
 use Rattle.reads.proofs.Tests.{either}
 use Rattle.bitmaps.specs.Paint.{some}
 use Rattle.bitmaps.specs.Units.{unitBytes, unitStart, bitIndex, bitAt, byteOf}
 use Rattle.bitmaps.specs.Rows.{column}
 use Rattle.bitmaps.specs.declared.Order.{Order}
 use Rattle.bitmaps.proofs.Searching.{below-test}
-
--- numbers that are bytes, as those of a slice are
-pub record Octets (s : List ℕ) : Type 0 where
-  pub below : (i : ℕ) → byteAt s i < 256
 
 -- ---- a bit of a number, by its digits to the base 256
 

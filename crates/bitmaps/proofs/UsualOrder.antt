@@ -6,12 +6,11 @@ use mathlib.Core.Bool.{true}
 use mathlib.Core.List.{List}
 use lib.Dec.{eqb}
 use borrow.Author.Tests.{eqb-true}
-use Rattle.reads.specs.Num.{byteAt}
+use Rattle.reads.specs.Num.{byteAt, Octets}
 use Rattle.reads.proofs.Tests.{both}
 use Rattle.bitmaps.specs.Units.{bitAt, byteOf, rowByte, shownByte, usual}
 use Rattle.bitmaps.specs.Rows.{column}
 use Rattle.bitmaps.specs.declared.Order.{Order}
-use Rattle.bitmaps.proofs.UnitBits.{Octets}
 use Rattle.bitmaps.proofs.RowEnds.{held-alone}
 use Rattle.bitmaps.proofs.ShownBytes.{held-shown, bit-by-byte}
 

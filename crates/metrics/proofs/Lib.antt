@@ -1,3 +1,4 @@
 pub mod RecordInside
 pub mod Measuring
 pub mod Refusals
+pub mod Widths

@@ -8,7 +8,7 @@ use native.Mathlib.Omega.{arith}
 use lib.Dec.{leb, ltb}
 use mir.Syntax.{w64}
 use mir.Val.{Fits}
-use Rattle.reads.specs.Num.{byteAt}
+use Rattle.reads.specs.Num.{byteAt, Octets}
 use Rattle.bitmaps.specs.Place.{Place, placeAt, rowPlace, columnPlace}
 use Rattle.bitmaps.specs.Paint.{some}
 use Rattle.bitmaps.specs.Units.{bitAt, byteOf, shownByte}
@@ -17,7 +17,6 @@ use Rattle.bitmaps.specs.Dots.{blockDot, rowDot, someDot}
 use Rattle.bitmaps.specs.Ink.{rowPast, rowsPast, rowStart, rowBits}
 use Rattle.bitmaps.specs.declared.Order.{Order}
 use Rattle.bitmaps.proofs.Searching.{some-true, some-next}
-use Rattle.bitmaps.proofs.UnitBits.{Octets}
 use Rattle.bitmaps.proofs.RowEnds.{held-below}
 use Rattle.bitmaps.proofs.ShownBytes.{bit-by-byte, held-shown}
 use Rattle.outcome.proofs.Corner.{block-past, by-room}

@@ -9,6 +9,7 @@ use native.Mathlib.Nat.{le-refl}
 use lib.Dec.{eqb, leb}
 use lib.ListN.{length}
 use borrow.Author.Tests.{eqb-true}
+use Rattle.reads.specs.Num.{Octets}
 use Rattle.reads.specs.Said.{refusal}
 use Rattle.tables.specs.declared.BitmapData.{BitmapData}
 use Rattle.bitmaps.specs.Place.{Place, placeAt}
@@ -24,7 +25,6 @@ use Rattle.bitmaps.specs.declared.Order.{Order}
 use Rattle.bitmaps.specs.declared.Drawn.{Drawn}
 use Rattle.bitmaps.specs.declared.Unpacked.{Unpacked}
 use Rattle.bitmaps.proofs.Searching.{or-cases}
-use Rattle.bitmaps.proofs.UnitBits.{Octets}
 use Rattle.bitmaps.proofs.RowsInside.{inside-rows}
 use Rattle.bitmaps.proofs.NoDots.{none-found, no-dots}
 use Rattle.bitmaps.proofs.LastByte.{glyph-short}

@@ -1,6 +1,6 @@
 -- Numbers in a font's bytes: of any width, in either byte order, and their signed readings.
 -- From document 01, "Reading the tables", and the public description's byte orders.
-use Prim.Native.Nat.{ℕ, zero, suc, _+_, _-_, _*_, _^_}
+use Prim.Native.Nat.{ℕ, zero, suc, _+_, _-_, _*_, _^_, _<_}
 use mathlib.Core.List.{List}
 use mathlib.Core.Bool.{Bool, true, false, cond}
 use lib.ListN.{length, getD}
@@ -10,6 +10,10 @@ use lib.IntN.{ℤ, pos, negsuc, subℕ}
 -- the byte at a place, 0 past the end
 abbrev pub byteAt : List ℕ → ℕ → ℕ
 byteAt s at = getD s at 0
+
+-- numbers that are bytes, as those of a slice are
+pub record Octets (s : List ℕ) : Type 0 where
+  pub below : (i : ℕ) → byteAt s i < 256
 
 -- which of `w` bytes, or bits, is the k-th most significant, from 0: with the most significant first the k-th, else the k-th from the end
 abbrev pub digitIndex : Bool → ℕ → ℕ → ℕ

@@ -1,27 +1,23 @@
 -- Why one number can stand for no wrap: no text reaches a width of 2^64 - 1 pixels, so a text set to wrap there has the answer and the
--- pixels of one that never wraps. The font's numbers have to be bytes, for a compressed metric is as large as its byte.
-use Prim.Native.Nat.{ℕ, _+_, _*_, _<_}
+-- pixels of one that never wraps. The font's numbers have to be bytes, for a metric is as large as those that it is read from.
+use Prim.Native.Nat.{ℕ, _+_, _<_}
 use mathlib.Core.Path.{_≡_, refl, sym, ap, _∙_}
-use mathlib.Core.Bool.{Bool, true, false, _||_}
+use mathlib.Core.Bool.{Bool, _||_}
 use mathlib.Core.List.{List, [], _∷_}
 use native.Mathlib.Omega.{arith}
 use lib.Dec.{eqb, leb}
-use lib.IntN.{natAbs}
 use lib.ListN.{length}
 use borrow.Author.Tests.{eqb-true, lt-leb}
-use Rattle.reads.specs.Num.{byteAt, u16At}
+use Rattle.reads.specs.Num.{Octets}
 use Rattle.reads.specs.declared.GlyphIndex.{GlyphIndex}
-use Rattle.reads.proofs.Signed.{metric-small, signed-small}
 use Rattle.reads.proofs.Tests.{split, either}
-use Rattle.tables.specs.Metrics.{wideAt, narrowAt, metricBytes}
-use Rattle.tables.specs.declared.MetricsData.{MetricsData}
 use Rattle.tables.specs.declared.Record.{Record}
 use Rattle.lookup.specs.Lookup.{glyphOf}
 use Rattle.lookup.specs.declared.Found.{Found}
-use Rattle.metrics.specs.Measure.{measuredAt, glyphMetrics, metricsOf}
+use Rattle.metrics.specs.Measure.{glyphMetrics, metricsOf}
 use Rattle.metrics.specs.declared.Measured.{Measured}
+use Rattle.metrics.proofs.Widths.{width-small}
 use Rattle.bitmaps.specs.Paint.{painted}
-use Rattle.bitmaps.proofs.UnitBits.{Octets}
 use Rattle.place.specs.Bounds.{boundsOf}
 use Rattle.place.specs.Info.{placeable, boxed, withMetrics, infoOf, infoIn}
 use Rattle.place.specs.declared.GlyphInfo.{GlyphInfo}
@@ -47,22 +43,13 @@ use Rattle.text.proofs.BeforeFirst.{is-settled, is-readable}
 abbrev pub wrapping : Layout → Wrap → Layout
 wrapping lay w = record { start = lay .start; wrap = w; stride = lay .stride; scale = lay .scale }
 
--- ---- in a font of bytes no glyph is wider than 16 bits hold
-
--- what was placed has no wider glyph
+-- what was placed is no wider than 16 bits hold
 abbrev Narrow : Placed → Type 0
 Narrow (Placed.Skip pen) = Unit {0}
 Narrow (Placed.Glyph pen i) = i .width < 65536
 Narrow (Placed.Refused n) = Unit {0}
 
 module _ (s : List ℕ) (octets : Octets s) (rec : Record) where
-  width-small : (m : MetricsData) (g : ℕ) → natAbs (glyphMetrics s m g .width) < 65536
-  unfolding wideAt narrowAt
-  width-small m g = by (m .compressed) where
-    by : (narrow : Bool) → natAbs (measuredAt narrow (m .big) s (m .records + metricBytes narrow * g) .width) < 65536
-    by true = metric-small (byteAt s (m .records + 5 * g + 2)) (octets .below (m .records + 5 * g + 2))
-    by false = signed-small (u16At (m .big) s (m .records + 12 * g + 4))
-
   module _ (lay : Layout) (pen : Pen) where
     info-narrow : (g : GlyphIndex) → Narrow (placeInfo rec lay pen (infoIn s rec g))
     unfolding infoOf metricsOf
@@ -70,7 +57,7 @@ module _ (s : List ℕ) (octets : Octets s) (rec : Record) where
         let m = glyphMetrics s (rec .metrics) (g .0) in
         let P : Measured → Type 0 = λ x. Narrow (placeInfo rec lay pen (withMetrics x (λ m. boxed g m (boundsOf rec .ascent)))) in
         let Q : Prepared → Type 0 = λ x. Narrow (placeInfo rec lay pen x) in
-        either P (leb (rec .metrics .count) (g .0)) tt (either Q (placeable m (boundsOf rec .ascent)) (width-small (rec .metrics) (g .0)) tt)
+        either P (leb (rec .metrics .count) (g .0)) tt (either Q (placeable m (boundsOf rec .ascent)) (width-small s octets (rec .metrics) (g .0)) tt)
 
     found-narrow : (x : Found) → Narrow (placeFound s rec lay pen x)
     found-narrow (Found.Glyph g) = info-narrow g

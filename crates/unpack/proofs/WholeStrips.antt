@@ -6,6 +6,7 @@ use mathlib.Core.List.{List}
 use native.Mathlib.Nat.{mul-one}
 use native.Mathlib.Omega.{arith}
 use lib.ListN.{length}
+use Rattle.reads.specs.Num.{Octets}
 use Rattle.bitmaps.specs.Place.{placeAt}
 use Rattle.bitmaps.specs.Paint.{painted}
 use Rattle.bitmaps.specs.Units.{byteOf}
@@ -13,7 +14,6 @@ use Rattle.bitmaps.specs.Rows.{rowBytes}
 use Rattle.bitmaps.specs.Unpack.{wholeColumns}
 use Rattle.bitmaps.specs.Ink.{inRows, rowsPast, rowBits, byteBits}
 use Rattle.bitmaps.specs.declared.Order.{Order}
-use Rattle.bitmaps.proofs.UnitBits.{Octets}
 use Rattle.bitmaps.proofs.Strips.{Stripped, strip-room, strip-more, all-strips}
 
 module _ (s : List ℕ) (o : Order) (first step stride width n : ℕ) (old buf : List ℕ) (j count : ℕ) where

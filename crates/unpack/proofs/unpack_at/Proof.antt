@@ -3,10 +3,10 @@ use mathlib.Core.Logic.{⊎-elim}
 use native.Mathlib.Omega.{arith}
 use native.Mathlib.Nat.{le-refl}
 use lib.ListN.{length}
+use Rattle.reads.specs.Num.{Octets}
 use Rattle.bitmaps.specs.Unpack.{wholeColumns, unscaled, unpackedAt}
 use Rattle.bitmaps.specs.declared.Unpacked.{Unpacked}
 use Rattle.reads.proofs.Places.{known}
-use Rattle.bitmaps.proofs.UnitBits.{Octets}
 use Rattle.bitmaps.proofs.LentRows.{rows-found, from-fits, rows-there, lent-room, lent-drawn}
 use Rattle.bitmaps.proofs.NoDots.{dots-behind}
 use Rattle.outcome.proofs.Tests.{Passed, nothing-coloured, unpacked-13, unpacked-nothing, unpacked-14, unpacked-16, unpacking-fits, unpacking-searched}

@@ -1,8 +1,8 @@
 use Prim.Native.Nat.{_-_}
 use native.Mathlib.Omega.{arith}
+use Rattle.reads.specs.Num.{Octets}
 use Rattle.reads.proofs.Places.{known}
 use Rattle.bitmaps.specs.Unpack.{wholeColumns}
-use Rattle.bitmaps.proofs.UnitBits.{Octets}
 use Rattle.bitmaps.proofs.Strips.{Stripped, no-strip, strip-in, strip-fits}
 use Rattle.unpack.proofs.WholeStrips.{whole-rows, whole-room, whole-more}
 use borrow.Author.Needs.{needs}

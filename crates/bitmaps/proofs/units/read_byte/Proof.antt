@@ -2,10 +2,10 @@ use Prim.Native.Nat.{ℕ, _*_, _≤_}
 use mathlib.Core.Path.{_≡_, sym, ap, _∙_}
 use mathlib.Core.List.{List}
 use lib.ListN.{length, List·getD-eq-default}
+use Rattle.reads.specs.Num.{Octets}
 use Rattle.reads.proofs.Places.{known}
 use Rattle.bitmaps.specs.Units.{byteOf, rowByte, shownByte}
 use Rattle.bitmaps.specs.declared.Order.{Order}
-use Rattle.bitmaps.proofs.UnitBits.{Octets}
 use Rattle.bitmaps.proofs.ShownBytes.{held-read, blank-shown}
 use borrow.Author.Needs.{needs}
 use Rattle.bitmaps.proofs.units.read_byte.Statement.{statement}

@@ -1,5 +1,5 @@
 use mathlib.Core.Logic.{⊎-elim}
-use Rattle.bitmaps.proofs.UnitBits.{Octets}
+use Rattle.reads.specs.Num.{Octets}
 use Rattle.bitmaps.proofs.LentRows.{all-there, rows-found, from-fits}
 use Rattle.reads.proofs.Places.{known}
 use Rattle.outcome.proofs.Tests.{shown-13, shown-nothing, shown-14, shown-16, shown-fitting, shown-searched}

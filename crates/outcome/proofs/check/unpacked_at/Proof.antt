@@ -1,4 +1,4 @@
-use Rattle.bitmaps.proofs.UnitBits.{Octets}
+use Rattle.reads.specs.Num.{Octets}
 use Rattle.bitmaps.proofs.LentRows.{all-there, rows-found, from-fits}
 use Rattle.reads.proofs.Places.{known}
 use Rattle.outcome.proofs.Tests.{unpacked-13, unpacked-nothing, unpacked-14, unpacked-16, unpacked-fitting, unpacked-searched}

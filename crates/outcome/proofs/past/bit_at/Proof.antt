@@ -1,4 +1,4 @@
-use Rattle.bitmaps.proofs.UnitBits.{Octets}
+use Rattle.reads.specs.Num.{Octets}
 use Rattle.reads.proofs.Places.{known}
 use Rattle.outcome.proofs.RowSearch.{byte-near, bit-read}
 use borrow.Author.Needs.{needs}

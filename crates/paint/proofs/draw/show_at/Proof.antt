@@ -2,10 +2,10 @@ use Prim.Native.Nat.{_*_, _<_, _^_}
 use mathlib.Core.Path.{_≡_, refl}
 use mathlib.Core.Logic.{⊎-elim}
 use lib.ListN.{length}
+use Rattle.reads.specs.Num.{Octets}
 use Rattle.bitmaps.specs.Place.{placeAt}
 use Rattle.bitmaps.specs.Draw.{rowsOf, shownAt}
 use Rattle.bitmaps.specs.declared.Drawn.{Drawn}
-use Rattle.bitmaps.proofs.UnitBits.{Octets}
 use Rattle.bitmaps.proofs.LentRows.{rows-found, from-fits, rows-there, lent-room, lent-drawn}
 use Rattle.outcome.proofs.Tests.{Passed, own-columns, nothing-coloured, shown-13, shown-nothing, shown-14, shown-16, drawing-fits, drawing-searched}
 use Rattle.reads.proofs.Places.{known}

@@ -1,6 +1,6 @@
 use Prim.Native.Nat.{_-_}
 use native.Mathlib.Omega.{arith}
-use Rattle.bitmaps.proofs.UnitBits.{Octets}
+use Rattle.reads.specs.Num.{Octets}
 use Rattle.bitmaps.proofs.Strips.{Stripped, no-strip, strip-in, strip-fits, strip-room, strip-more, all-strips}
 use Rattle.reads.proofs.Places.{known}
 use Rattle.paint.proofs.StripPlaces.{strip-begins, strips-end, some-columns, strip-near, strip-place-fits}
