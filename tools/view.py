@@ -3,6 +3,7 @@
 What they are is read from crates/font/src: a method of the view passes the view's slice and its record on with its
 other parameters, and a function outside passes a view that it makes. tools/view.json says which functions there
 are, by the shape of their code. With --check nothing is written: it fails where a file is not what it would write."""
+import glob
 import json
 import os
 import re
@@ -425,14 +426,18 @@ def written():
 
 
 def main():
-    check = sys.argv[1:] == ["--check"]
-    for path, text in written():
+    check, files = sys.argv[1:] == ["--check"], dict(written())
+    methods = glob.glob(os.path.join(PROOFS, "Font", "*", "Proof.antt"), root_dir=ROOT)
+    for path in sorted(set(methods) - set(files)):
+        fail(f"{path} is of no function that tools/view.json has")
+    for path, text in files.items():
         if check and read(path) != text:
             fail(f"{path} is not what tools/view.py writes")
         if not check:
             os.makedirs(os.path.dirname(os.path.join(ROOT, path)), exist_ok=True)
             with open(os.path.join(ROOT, path), "w", encoding="utf-8") as f:
                 f.write(text)
+    print(f"view: {len(files)} files, {'as this writes them' if check else 'written'}")
 
 
 if __name__ == "__main__":

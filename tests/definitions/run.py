@@ -9,6 +9,7 @@ A text is a string of bytes 0 to 255; "more" is a piece that follows it and how 
 The definitions are computed by the prover: each case becomes an equation that holds by computation, in crates of a
 temporary folder, beside a copy of each library's types and definitions without its functions. So nothing has to be
 proved before, and a change of a definition can be tried before its proofs are made. Nothing of it is kept."""
+import collections
 import json
 import os
 import re
@@ -25,9 +26,29 @@ import model  # noqa: E402
 from common import ROOT  # noqa: E402
 from definitions import terms  # noqa: E402
 from definitions.answers import answer, text_of  # noqa: E402
+from documents import pages  # noqa: E402
+from documents.refusals import Orders  # noqa: E402
 
+# calls that the page has under another name, and those that answer as another call does
+NAMED = {"load": "load_pcf", "utf8_step": "step_at", "dump": "print_dump"}
+DRY_RUNS = ("bitmap_check", "glyph_check", "char_check", "unpack_check", "text_check")
 TOPS = ("text", "frames")  # the cases call definitions of these libraries and of those that they stand on
 CRATES = 4  # of cases; the prover takes them side by side
+
+
+# ---- the cases
+
+
+def unseen(cases, fonts):
+    """what the cases lack: a call of the first table of docs/PROMISES.md that is no dry run, a number that a call can
+    be refused with, or an answer"""
+    known, seen = Orders(pages.PROMISES, "Function"), collections.defaultdict(set)
+    for c in cases:
+        seen[known.named(NAMED.get(c["call"], c["call"]))].add(terms.number(c, fonts))
+    for call in sorted(known.first | set(seen)):
+        lacking = sorted({0, *known.order(call)} - seen[call])
+        if lacking and call[1] not in DRY_RUNS:
+            yield f"no case of {'::'.join(call)} is answered {lacking}"
 
 
 # ---- the libraries
@@ -137,6 +158,11 @@ def main():
         fonts = [bytes.fromhex(line.strip()) for line in f]
     with open(os.path.join(HERE, "cases.jsonl"), encoding="ascii") as f:
         cases = [json.loads(line) for line in f]
+    lacking = list(unseen(cases, fonts))
+    if lacking:
+        print("\n".join(lacking))
+        print(f"definitions: {len(lacking)} kinds of cases are missing")
+        return 1
     begun = time.monotonic()
     ended, said = computed(cases, fonts)
     if ended == 0:

@@ -96,6 +96,21 @@ def answer_term(font, rec, c):
     return f"seen (said {n} {place} {listed}) {numbers(left)}"
 
 
+def made(c, fonts):
+    """the record that a case hands in, None where it hands in none"""
+    if c["call"] in NO_RECORD:
+        return None
+    return model.changed(model.load(fonts[c.get("of", c["font"])]), c.get("rec", {}))
+
+
+def number(c, fonts):
+    """the number that the model refuses a case with, or 0"""
+    if c["call"] == "dump":
+        refused = re.fullmatch(rb"refused (\d\d)\n", model.dump(text_of(c)))
+        return int(refused[1]) if refused else 0
+    return answer(fonts[c["font"]] if "font" in c else b"", made(c, fonts), c)[0]
+
+
 def module(batch, fonts, uses, opened):
     """the text of a module in which each case of a batch is an equation that holds by computation; `uses` and `opened`
     are the lines that name the definitions, and their names, which are opened to compute"""
@@ -109,17 +124,14 @@ def module(batch, fonts, uses, opened):
             if f not in written:
                 out.append(f"{f} : List ℕ\n{f} = {numbers(fonts[c['font']])}\n")
                 written.add(f)
-        made = None
-        if call not in NO_RECORD:
-            loaded = model.load(fonts[c.get("of", c["font"])])
-            made = model.changed(loaded, c.get("rec", {}))
-            if "rec" in c:
-                rec = f"made{k}"
-                local.append(rec)
-                out.append(f"{rec} : Record\n{rec} = {record(made)}\n")
+        handed = made(c, fonts)
+        if handed is not None and "rec" in c:
+            rec = f"made{k}"
+            local.append(rec)
+            out.append(f"{rec} : Record\n{rec} = {record(handed)}\n")
         left = term(f, rec, c)
-        if made is not None and "rec" not in c:
+        if handed is not None and "rec" not in c:
             left = f"onFont (loaded {f}) (λ rec. {left})"
-        right = answer_term(fonts[c["font"]] if "font" in c else b"", made, c)
+        right = answer_term(fonts[c["font"]] if "font" in c else b"", handed, c)
         out.append(f"case{k} : {left} ≡ {right}\nunfolding {' '.join(OWN + opened + local)}\ncase{k} = refl\n")
     return "\n".join(out)

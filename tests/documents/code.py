@@ -89,12 +89,18 @@ def public():
         yield (crate, name), bool(answer) and answer[1] in refusing
 
 
+@functools.lru_cache(None)
+def enums():
+    """crate::name of each public enum"""
+    return {f"{crate}::{name}" for crate in crates() for name in re.findall(r"^pub enum (\w+)", source(crate), re.M)}
+
+
+@functools.lru_cache(None)
 def answers():
-    """crate::name of each enum that a public function answers with; one that makes an argument answers nothing"""
-    made = {"Wrap"}
-    enums = {name: crate for crate in crates() for name in re.findall(r"^pub enum (\w+)", source(crate), re.M)}
+    """those that a public function answers with; one that makes an argument answers nothing"""
+    made = {"text::Wrap"}
     returned = {answer for _, _, clauses in public_functions() for answer in re.findall(r"-> (\w+)", clauses)}
-    return {f"{enums[name]}::{name}" for name in returned & set(enums) - made}
+    return {enum for enum in enums() - made if enum.split("::")[1] in returned}
 
 
 def signatures():

@@ -40,7 +40,7 @@ ELSEWHERE = re.compile(r"\w+ case|below|the .* under \".*\"")
 FOLDERS = "crates|tests|docs|include|bindings|examples|meter-font|bench"
 PATH = re.compile(rf"(?<![\w/.`])(?:{FOLDERS})/[\w./*-]*\w")
 
-LAW = re.compile(r"[a-z0-9]+(?:-[a-z0-9]+)+")
+LAW = re.compile(r"[A-Za-z0-9]+(?:-[A-Za-z0-9]+)+")
 
 # where a name without a crate is looked for: what it would be, the names there, and the crate
 Near = collections.namedtuple("Near", "kind names crate")
@@ -181,12 +181,22 @@ def drawn():
 
 
 def answered():
-    """docs/PROMISES.md has each enum that a public function answers with once in its table of answers"""
+    """docs/PROMISES.md has each enum that a public function answers with once in its table of answers, beside the
+    definition that says its number and values, and each other enum in the sentence below it"""
     tables = [table for table in pages.tables(pages.PROMISES) if table.head[0] == "Answer"]
-    told = [name for table in tables for _, row in table.rows for _, name in pages.names(row[0])]
+    rows = [(line, name, row[1]) for table in tables for line, row in table.rows for _, name in pages.names(row[0])]
+    told = [enum for _, enum, _ in rows]
     for enum in sorted(code.answers() | set(told)):
         if told.count(enum) != 1 or enum not in code.answers():
             yield f"{pages.PROMISES}: {enum} stands {told.count(enum)} times in the table of answers"
+    for line, enum, cell in rows:
+        crate, file, name = re.fullmatch(r"`(\w+)/(\w+): (\w+)`", cell).groups()
+        if f" {name} : {enum.split('::')[1]} → Said\n" not in code.read(f"crates/{crate}/specs/{file}.antt"):
+            yield f"{pages.PROMISES}:{line}: {name} does not say what {enum} answers"
+    rest = [p.text for p in pages.pieces(pages.PROMISES) if "The remaining enums are no answers" in p.text]
+    named = {name for text in rest for _, name in pages.names(text)}
+    for enum in sorted(code.enums() - code.answers() - named):
+        yield f"{pages.PROMISES}: {enum} is no answer, and is not told to be none"
 
 
 def exported():
@@ -206,4 +216,4 @@ def check():
         reader.read()
     faults = [fault for reader in readers for fault in reader.faults]
     faults += [*stands(readers[0]), *drawn(), *answered(), *exported()]
-    return sum((r.counts for r in readers), collections.Counter()), faults
+    return sum((r.counts for r in readers), collections.Counter(answers=len(code.answers()))), faults

@@ -97,6 +97,15 @@ def compare(known, orders, calls):
             yield f"{orders.page}:{line}: {name} is refused {orders.order(call)}, in {known.page} {known.order(call)}"
 
 
+def listed(known, calls):
+    """docs/CALLS.md has every function of the view's crate where it tells of the view, in a row or in its text"""
+    pieces = [piece for piece in pages.pieces(calls.page) if piece.section.endswith("through the view")]
+    told = {name.partition("(")[0] for piece in pieces for _, name in pages.names(piece.text)}
+    for crate, name in sorted(call for call in known.cells if call[0] == "font"):
+        if not {name, f"{crate}::{name}"} & told:
+            yield f"{calls.page}: {crate}::{name} is missing"
+
+
 def public(known):
     """every public function has its row, with refusals where it can refuse, and no row is of another"""
     functions = dict(code.public())
@@ -182,7 +191,7 @@ def check():
     known, calls, header = Orders(pages.PROMISES, "Function"), Orders(pages.CALLS, "Call"), header_orders()
     exported = {call for call in known.cells if call[0] == "thalluskin"}
     faults = list(public(known)) + list(recorded(known)) + list(proved(known))
-    faults += compare(known, calls, known.first | set(calls.cells))
+    faults += [*compare(known, calls, known.first | set(calls.cells)), *listed(known, calls)]
     faults += compare(known, header, exported | set(header.cells))
     numbers = list(told_numbers(known))
     faults += [f"{place}: refusals {differing(has, must)}" for place, has, must in numbers if has != must]

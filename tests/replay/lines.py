@@ -4,7 +4,7 @@ from pcf.font_f import two_digits
 from replay.calls import ROOM, but, check, damages, fill, frame, refused
 from replay.texts import ILL_FORMED, WELL_FORMED
 
-LACKING = [  # changes of F's record by which the frame of '1' lacks something: 10 to 14, 17, 18, alone and by turns
+LACKING = [  # changes of F's record by which the frame of '1' lacks something: 10 to 14, 17, 18
     {"metrics__count": 1}, {"accel__maxbounds__ascent": 2}, {"bitmaps__count": 1}, {"bitmaps__unit": 3},
     {"bitmaps__unit": 1}, {"bitmaps__size": 5}, {"names__count": 1}, {"names__size": 7}, {"names__size": 3},
 ]
@@ -30,7 +30,7 @@ def lacking():
         yield but(frame(0x30, ROOM), **changes)
     for first in LACKING:
         for second in LACKING:
-            if first != second:
+            if not set(first) & set(second):
                 yield but(frame(0x31, ROOM), **{**first, **second})
 
 

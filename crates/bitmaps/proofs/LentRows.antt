@@ -11,6 +11,7 @@ use mir.Val.{Fits}
 use borrow.Author.Tests.{eqb-false}
 use borrow.Rule.Slice.PartMut.{putMid}
 use Rattle.reads.specs.Num.{Octets}
+use Rattle.reads.proofs.Tests.{or-neither}
 use Rattle.tables.specs.declared.BitmapData.{BitmapData}
 use Rattle.bitmaps.specs.Paint.{painted}
 use Rattle.bitmaps.specs.Units.{orderOf}
@@ -21,7 +22,6 @@ use Rattle.bitmaps.specs.Dots.{someDot}
 use Rattle.bitmaps.specs.Ink.{inRows, rowsPast, rowStart, rowBits, RowsIn}
 use Rattle.bitmaps.specs.declared.Order.{Order}
 use Rattle.bitmaps.specs.Picture.{bitsOf, offsetOf, rowsShort, glyphBit, inPicture, pixelPast}
-use Rattle.bitmaps.proofs.Searching.{or-neither}
 use Rattle.bitmaps.proofs.Painting.{painted-same, lent-length}
 use Rattle.bitmaps.proofs.Shift.{past-room, lent-painted}
 use Rattle.bitmaps.proofs.RowEnds.{end-reached}

@@ -11,12 +11,12 @@ use lib.Dec.{eqb, leb, ltb}
 use mir.Syntax.{w8, w64}
 use mir.Val.{Fits}
 use borrow.Author.Tests.{leb-true, le-leb, ltb-true, ltb-false, lt-ltb, ne-eqb, not-true}
-use Rattle.reads.proofs.Tests.{both, never, split}
+use Rattle.reads.proofs.Tests.{both, never, split, or-first, or-second, or-cases}
 use Rattle.bitmaps.specs.Paint.{some}
 use Rattle.bitmaps.specs.Place.{placeAt}
 use Rattle.bitmaps.specs.Rows.{column}
 use Rattle.bitmaps.specs.Dots.{blockDot, rowDot}
-use Rattle.bitmaps.proofs.Searching.{or-first, or-second, or-cases, and-true, same-test, some-true, some-witness, some-false, some-same, below-test}
+use Rattle.bitmaps.proofs.Searching.{and-true, same-test, some-true, some-witness, some-false, some-same, below-test}
 
 -- columns z to z + n - 1 of byte b are set, and none before them; column k of `rest` is column k + d of b, if that stands behind them
 pub record FirstRun (b z n d rest : ℕ) : Type 0 where

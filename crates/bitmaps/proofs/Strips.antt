@@ -11,7 +11,7 @@ use lib.ListN.{length}
 use mir.Syntax.{w64}
 use mir.Val.{Fits}
 use Rattle.reads.specs.Num.{byteAt, Octets}
-use Rattle.reads.proofs.Tests.{never, split}
+use Rattle.reads.proofs.Tests.{never, split, or-neither}
 use Rattle.bitmaps.specs.Paint.{some, painted}
 use Rattle.bitmaps.specs.Place.{Place, placeAt, columnPlace}
 use Rattle.bitmaps.specs.Units.{byteOf, shownByte}
@@ -19,7 +19,7 @@ use Rattle.bitmaps.specs.Rows.{rowBytes, rowEnd, column}
 use Rattle.bitmaps.specs.Dots.{blockDot, rowDot, someDot}
 use Rattle.bitmaps.specs.Ink.{inRow, inRows, rowsPast, rowStart, rowBits, byteBits, RowsIn}
 use Rattle.bitmaps.specs.declared.Order.{Order}
-use Rattle.bitmaps.proofs.Searching.{or-neither, some-none, some-same, some-or}
+use Rattle.bitmaps.proofs.Searching.{some-none, some-same, some-or}
 use Rattle.bitmaps.proofs.Pieces.{some-pieces}
 use Rattle.bitmaps.proofs.Painting.{length-painted, painted-none, painted-in-turn}
 use Rattle.bitmaps.proofs.RowEnds.{end-above}

@@ -4,8 +4,8 @@ use native.Mathlib.Omega.{arith}
 use mathlib.Core.Path.{_≡_, sym, ap, _∙_}
 use mathlib.Core.Bool.{Bool, true, false}
 use mathlib.Core.List.{List}
-use lib.ListN.{length, take}
-use lib.Seq.{length-sets, length-take-le}
+use lib.ListN.{length}
+use lib.Seq.{length-sets}
 use lib.Dec.{ltb}
 use borrow.Author.Tests.{ltb-false, le-ltb}
 use Rattle.reads.proofs.Tests.{never, split}
@@ -42,6 +42,3 @@ pub refused-within : (k : ℕ) (old new : List ℕ) (r : Printed) (n : ℕ) → 
     → r ≡ refusedInto k (length old) → new ≡ refusedLeaves k r old → r ≡ Printed.Bytes n → n ≤ length new
 unfolding refusedInto
 refused-within k old new r n two answer left e = line-within (refusedLine k) old new r n (rw (le-ltb 99 k two) at answer) left e
-
-pub counted : (n : ℕ) (new : List ℕ) → n ≤ length new → n ≡ length (take n new)
-counted n new within = sym (length-take-le n new within)

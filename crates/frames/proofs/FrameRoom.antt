@@ -66,7 +66,7 @@ module _ (s : List ℕ) (b : BitmapData) (i : GlyphInfo) (pad : 0 < b .pad) (fit
       omega (arith, end, row-reaches (orderOf b) (i .width), data-length s b)
 
   -- where 14 does not occur, a glyph has no more row bytes than the font has bytes
-  pub rows-within : length (glyphRows s b i) ≤ length s
+  rows-within : length (glyphRows s b i) ≤ length s
   rows-within =
       rw (length-rows s b i 0 (i .height))
       (split (eqb (i .width) 0)
@@ -77,7 +77,7 @@ module _ (s : List ℕ) (b : BitmapData) (i : GlyphInfo) (pad : 0 < b .pad) (fit
       (λ u. some-rows (omega (arith, eqb-false (i .width) 0 t)) (omega (arith, eqb-false (i .height) 0 u)))))
 
 -- a name is a part of the font's bytes
-pub name-within : (s : List ℕ) (n : Named) → length (nameBytes s n) ≤ length s
+name-within : (s : List ℕ) (n : Named) → length (nameBytes s n) ≤ length s
 name-within s n =
     let p = spanOf n in
     rw (length-take (p .len) (drop (p .start) s), length-drop (p .start) s) (omega arith)

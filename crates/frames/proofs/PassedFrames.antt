@@ -38,16 +38,16 @@ module _ (s : List ℕ) (rec : Record) (i : GlyphInfo) (readable : unreadable (r
   named-alike (Named.Name p) = refl
   named-alike (Named.Refused r) = refl
 
-  pub lacks-fault : saidPrepared (wholeBox s rec i) .number ≡ boxFault s rec i
+  pub lack-is-fault : saidPrepared (wholeBox s rec i) .number ≡ boxFault s rec i
   unfolding wholeBox boxFault
-  lacks-fault =
+  lack-is-fault =
       let b = rec .bitmaps in
       let g = i .glyph .0 in
       rw readable
       (split (noBitmap b g) (λ t. rw t refl)
       (λ t. split (rowsShort s b g (i .width) (i .height)) (λ u. rw (t, u) refl) (λ u. rw (t, u) (named-alike (nameOf s (rec .names) g)))))
 
--- a code of which a frame lacks something has no glyph
+-- a code whose frame would lack something has no glyph
 pub passed-whole : (s : List ℕ) (rec : Record) → vetted s ≡ Vetted.Passed rec
     → (code : ℕ) (r : Refusal) → wholeGlyph s rec code ≡ Prepared.Refused r → glyphOf s (rec .codes) code ≡ Found.Refused r
 unfolding wholeGlyph prepared wholeBox

@@ -64,7 +64,7 @@ loaded s =
     (cond (ltb (length s) (8 + 16 * count)) (Loaded.Refused (refusal 4 0))
     (entriesFrom s count 0 nothing))))
 
--- the numbers of a refusal: "Order in loading: 1 to 4, then entries in order (5; within a table 6 for its header, 7, 6 for the rest), then 8"
+-- the numbers of a refusal
 abbrev pub ofLoading : List ℕ
 ofLoading = 1 ∷ 2 ∷ 3 ∷ 4 ∷ 5 ∷ 6 ∷ 7 ∷ 8 ∷ []
 

@@ -4,16 +4,12 @@ use mathlib.Core.List.{List}
 use Prim.Native.Nat.{ℕ, _+_, _-_, _≤_, _<_, min}
 use native.Mathlib.Omega.{arith}
 use lib.ListN.{length, take, drop, length-drop, drop-of-length-le}
-use lib.Seq.{take-all, length-take-le}
+use lib.Seq.{take-all}
 use lib.Dec.{leb}
 use borrow.Author.Tests.{leb-true, leb-false}
 use Rattle.reads.proofs.Tests.{split}
 use Rattle.names.specs.Strings.{partOf, partAt, movedBy}
 use Rattle.names.specs.declared.Span.{Span}
-
--- the front of what there is has its length
-pub front-count : (len : ℕ) (rest : List ℕ) → len < length rest → len ≡ length (take len rest)
-front-count len rest h = sym (length-take-le len rest (omega arith))
 
 module _ (s : List ℕ) (p : Span) (from : ℕ) (from-is : from ≡ min (p .start + 0) (length s)) where
   -- what the bytes have from the cut start on is what they have from the start on

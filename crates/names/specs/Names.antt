@@ -14,7 +14,7 @@ use Rattle.names.specs.Strings.{stringAt, partOf, partAt}
 use Rattle.names.specs.declared.Named.{Named}
 use Rattle.names.specs.declared.Span.{Span}
 
--- glyph g's name, or 17, 18
+-- glyph g's name, or 17, 18; 6 where the string data lies outside the bytes
 unfoldable pub nameOf : List ℕ → GlyphNameData → ℕ → Named
 nameOf s n g =
     cond (leb (n .count) g) (Named.Refused (refusal 17 0))

@@ -11,6 +11,7 @@ use lib.ListN.{length}
 use borrow.Author.Tests.{eqb-true}
 use Rattle.reads.specs.Num.{Octets}
 use Rattle.reads.specs.Said.{refusal}
+use Rattle.reads.proofs.Tests.{or-cases}
 use Rattle.tables.specs.declared.BitmapData.{BitmapData}
 use Rattle.bitmaps.specs.Place.{Place, placeAt}
 use Rattle.bitmaps.specs.Paint.{painted}
@@ -24,7 +25,6 @@ use Rattle.bitmaps.specs.Unpack.{wholeColumns, unscaled, unpackedAt}
 use Rattle.bitmaps.specs.declared.Order.{Order}
 use Rattle.bitmaps.specs.declared.Drawn.{Drawn}
 use Rattle.bitmaps.specs.declared.Unpacked.{Unpacked}
-use Rattle.bitmaps.proofs.Searching.{or-cases}
 use Rattle.bitmaps.proofs.RowsInside.{inside-rows}
 use Rattle.bitmaps.proofs.NoDots.{none-found, no-dots}
 use Rattle.bitmaps.proofs.LastByte.{glyph-short}

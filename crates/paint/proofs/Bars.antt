@@ -12,12 +12,13 @@ use lib.ListN.{length}
 use mir.Syntax.{w8, w64}
 use mir.Val.{Fits}
 use borrow.Author.Tests.{leb-false}
+use Rattle.reads.proofs.Tests.{or-neither}
 use Rattle.bitmaps.specs.Place.{placeAt}
 use Rattle.bitmaps.specs.Paint.{some, painted}
 use Rattle.bitmaps.specs.Rows.{column}
 use Rattle.bitmaps.specs.Dots.{blockDot, rowDot}
 use Rattle.bitmaps.specs.Ink.{inRow, rowPast}
-use Rattle.bitmaps.proofs.Searching.{or-neither, same-test, some-true, some-witness, some-false, some-same}
+use Rattle.bitmaps.proofs.Searching.{same-test, some-true, some-witness, some-false, some-same}
 use Rattle.bitmaps.proofs.Painting.{length-painted, painted-none, painted-or, painted-same}
 use Rattle.bitmaps.proofs.SetBits.{FirstRun, withoutBit, runOf, behindRun, first-bit, first-run, dot-or-behind}
 use Rattle.paint.specs.Ink.{barDot, inBar}

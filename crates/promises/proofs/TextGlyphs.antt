@@ -5,10 +5,9 @@ use mathlib.Core.Bool.{Bool, true, false, _||_}
 use mathlib.Core.List.{List, [], _∷_}
 use mathlib.Core.Logic.{_↔_, inl, inr, ⊎-elim}
 use native.Mathlib.Omega.{arith}
-use Rattle.reads.proofs.Tests.{never, split}
+use Rattle.reads.proofs.Tests.{never, split, or-first, or-second, or-cases}
 use Rattle.tables.specs.declared.Record.{Record}
 use Rattle.bitmaps.specs.Picture.{glyphBit}
-use Rattle.bitmaps.proofs.Searching.{or-first, or-second, or-cases}
 use Rattle.glyphs.specs.Glyph.{inInfo}
 use Rattle.vet.specs.Vet.{vetted}
 use Rattle.vet.specs.declared.Vetted.{Vetted}

@@ -7,14 +7,13 @@ use mathlib.Core.Logic.{_↔_, inl, inr, ⊎-elim}
 use native.Mathlib.Omega.{arith}
 use lib.ListN.{length}
 use borrow.Author.Tests.{eqb-true, eq-eqb, leb-true, leb-false}
-use Rattle.reads.proofs.Tests.{never, split}
+use Rattle.reads.proofs.Tests.{never, split, or-first, or-second, or-cases}
 use Rattle.tables.specs.declared.Record.{Record}
 use Rattle.bitmaps.specs.Paint.{painted}
 use Rattle.bitmaps.specs.Picture.{noBitmap, glyphBit}
 use Rattle.bitmaps.specs.declared.Drawn.{Drawn}
 use Rattle.bitmaps.specs.declared.Rows.{Rows}
 use Rattle.bitmaps.proofs.Painting.{painted-none}
-use Rattle.bitmaps.proofs.Searching.{or-first, or-second, or-cases}
 use Rattle.outcome.proofs.Answered.{shown-rows}
 use Rattle.place.specs.declared.GlyphInfo.{GlyphInfo}
 use Rattle.glyphs.specs.Glyph.{glyphDrawn, inInfo}

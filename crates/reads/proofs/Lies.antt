@@ -2,7 +2,10 @@
 use Prim.Native.Nat.{ℕ, _+_, _-_, _≤_, _<_, _^_, min}
 use mathlib.Core.Path.{_≡_, sym, _∙_}
 use mathlib.Core.Bool.{Bool, true, false}
+use mathlib.Core.List.{List}
 use native.Mathlib.Omega.{arith}
+use lib.ListN.{length, take}
+use lib.Seq.{length-take-le}
 use lib.Dec.{leb}
 use mir.Syntax.{w64}
 use mir.Val.{Fits}
@@ -27,6 +30,10 @@ module _ (len start offset size : ℕ) where
 
       pub sum-fits : len < 2 ^ 64 → Fits w64 (start + offset)
       sum-fits h = omega (arith, lies-inside)
+
+-- so many bytes of the front are so many
+pub counted : (n : ℕ) (s : List ℕ) → n ≤ length s → n ≡ length (take n s)
+counted n s h = sym (length-take-le n s h)
 
 -- a place cut at the length
 module _ (len start offset : ℕ) (lies : Bool) (lies-is : lies ≡ leb (start + offset + 0) len) where

@@ -1,6 +1,6 @@
 -- The laws of answers numbered by a list. That a number stands in a list, or one list in another, is computed: it is cited as `refl`.
 use mathlib.Core.Path.{_≡_, refl, sym, ap, _∙_}
-use mathlib.Core.Bool.{Bool, true, false, cond, _&&_, _||_}
+use mathlib.Core.Bool.{Bool, true, false, cond, _&&_}
 use mathlib.Core.List.{List, [], _∷_}
 use Prim.Native.Nat.{ℕ, _≤_}
 use native.Mathlib.Omega.{arith}
@@ -10,7 +10,7 @@ use lib.IntN.{ℤ}
 use borrow.Author.Tests.{eqb-true, leb-true, le-leb}
 use Rattle.reads.specs.Said.{Said, says, refuses, elem, OneOf, NumberedBy}
 use Rattle.reads.specs.declared.Refusal.{Refusal}
-use Rattle.reads.proofs.Tests.{never, both, split}
+use Rattle.reads.proofs.Tests.{never, both, or-second, split}
 
 pub has-values : {ns : List ℕ} {v : ℤ} {vs : List ℤ} → NumberedBy ns (says (v ∷ vs))
 has-values = record { is = refl }
@@ -34,10 +34,6 @@ elem-more n (m ∷ ns) ms w e =
     let (here, rest) = both (elem m ms) (all-in ns ms) w in
     split (eqb n m) (λ t. rw (eqb-true n m t) here) (λ t. elem-more n ns ms rest (rw t at e))
 
-or-right : (a b : Bool) → b ≡ true → a || b ≡ true
-or-right true b e = refl
-or-right false b e = e
-
 module _ {ns : List ℕ} {a : Said} where
   -- a list may grow
   grown : (ms : List ℕ) → ((n : ℕ) → elem n ns ≡ true → elem n ms ≡ true) → NumberedBy ns a → NumberedBy ms a
@@ -50,13 +46,13 @@ module _ {ns : List ℕ} {a : Said} where
   wider {ms} w = grown ms (λ n. elem-more n ns ms w)
 
   pub one-more : {m : ℕ} → NumberedBy ns a → NumberedBy (m ∷ ns) a
-  one-more {m} = grown (m ∷ ns) (λ n. or-right (eqb n m) (elem n ns))
+  one-more {m} = grown (m ∷ ns) (λ n. or-second (eqb n m) (elem n ns))
 
   -- the number itself is 0 or one of the list
   pub listed : NumberedBy ns a → elem (a .number) (0 ∷ ns) ≡ true
   listed h = by (a .number) (a .values) (h .is) where
     by : (n : ℕ) (vs : List ℤ) → OneOf ns n vs → elem n (0 ∷ ns) ≡ true
-    by n [] h = or-right (eqb n 0) (elem n ns) h
+    by n [] h = or-second (eqb n 0) (elem n ns) h
     by n (v ∷ vs) h = rw h refl
 
 -- no number of a list is greater than this one

@@ -24,7 +24,7 @@ same-choice true x y = refl
 same-choice false x y = refl
 
 -- the machine's reading of a number of `b` bytes as signed is the definition's
-pub signed-is : (w : Width) (b n : ℕ) → bits w ≡ 8 * b → hbits w ≡ 8 * b - 1 → toZ w n ≡ signed b n
+signed-is : (w : Width) (b n : ℕ) → bits w ≡ 8 * b → hbits w ≡ 8 * b - 1 → toZ w n ≡ signed b n
 unfolding signed
 signed-is w b n whole half = rw (← half, ← whole) (same-choice (ltb n (2 ^ hbits w)) (pos n) (negsuc (2 ^ bits w - suc n)))
 
@@ -43,7 +43,7 @@ module _ (w : Width) (n : ℕ) (h : 2 ^ hbits w ≤ n) (l : n < 2 ^ bits w) wher
   pub half-fits : SFits w (negsuc 0 -ℤ toZ w (2 ^ bits w - 1 - n))
   half-fits = subst (SFits w) (sym (from-half w n h l)) (sfits-toZ (record { fits = l }))
 
-  pub half-is : toZ w (ofZ w (negsuc 0 -ℤ toZ w (2 ^ bits w - 1 - n))) ≡ toZ w n
+  half-is : toZ w (ofZ w (negsuc 0 -ℤ toZ w (2 ^ bits w - 1 - n))) ≡ toZ w n
   half-is = toZ-ofZ half-fits ∙ from-half w n h l
 
 -- a number that is m, read as signed
@@ -59,11 +59,11 @@ pub mag-cond : (t : Bool) (x y : ℤ) (h : ℕ) → mag x ≤ h → mag y ≤ h 
 mag-cond true x y h p q = p
 mag-cond false x y h p q = q
 
-pub metric-fits : (b : ℕ) → b < 256 → SFits w16 (less128 b)
+metric-fits : (b : ℕ) → b < 256 → SFits w16 (less128 b)
 unfolding less128
 metric-fits b h = record { sfits = omega (arith, mag-cond (ltb b 128) (negsuc (128 - suc b)) (pos (b - 128)) 127 (omega arith) (omega arith)) }
 
-pub metric-is : (b : ℕ) → b < 256 → toZ w16 b -ℤ pos 128 ≡ less128 b
+metric-is : (b : ℕ) → b < 256 → toZ w16 b -ℤ pos 128 ≡ less128 b
 unfolding less128
 metric-is b h = ap (λ (z : ℤ). z -ℤ pos 128) (toZ-pos w16 {n = b} (omega arith))
 

@@ -3,12 +3,14 @@ use Prim.Native.Nat.{ℕ}
 use mathlib.Core.Path.{_≡_, refl, sym, _∙_}
 use mathlib.Core.Bool.{Bool, true, false, cond, not}
 use mathlib.Core.List.{List}
+use mathlib.Core.Logic.{_↔_}
 use native.Mathlib.Omega.{arith}
 use lib.ListN.{length}
 use borrow.Author.Tests.{not-true, not-false}
 use Rattle.reads.specs.Said.{refusal}
 use Rattle.reads.specs.declared.Refusal.{Refusal}
-use Rattle.tables.specs.Fits.{recordFits, guarded, guard, ladder}
+use Rattle.reads.proofs.Tests.{never}
+use Rattle.tables.specs.Fits.{recordFits, guarded, guard, ladder, saidPermit}
 use Rattle.tables.specs.declared.Permit.{Permit}
 use Rattle.tables.specs.declared.Record.{Record}
 
@@ -41,6 +43,13 @@ unfolding ladder
 passes true true e = (refl, refl)
 passes true false e = absurd (not-given (refusal 15 0) e)
 passes false within e = absurd (not-given (refusal 6 0) e)
+
+-- and has the number 0 exactly there
+pub guard-passes : (fits within : Bool) → (saidPermit (ladder fits within) .number ≡ 0) ↔ ((fits ≡ true) × (within ≡ true))
+unfolding ladder
+guard-passes true true = (λ e. (refl, refl), λ w. refl)
+guard-passes true false = (λ e. absurd (omega (arith, e)), λ (f, w). never w)
+guard-passes false within = (λ e. absurd (omega (arith, e)), λ (f, w). never f)
 
 ladder-given : (fits within : Bool) (after : Permit)
     → cond fits (cond within after (Permit.Refused (refusal 15 0))) (Permit.Refused (refusal 6 0)) ≡ Permit.Given → within ≡ true

@@ -1,14 +1,11 @@
--- The numbers that a table is refused with: 6, of a code table also 7; and where the tests before a drawing, 6 and 15, refuse nothing.
+-- The numbers that a table is refused with: 6, of a code table also 7.
 use Prim.Native.Nat.{ℕ}
-use mathlib.Core.Path.{_≡_, refl}
-use mathlib.Core.Bool.{Bool, true, false, _||_}
-use mathlib.Core.Logic.{_↔_}
+use mathlib.Core.Path.{refl}
+use mathlib.Core.Bool.{_||_}
 use mathlib.Core.List.{List, [], _∷_}
-use native.Mathlib.Omega.{arith}
 use lib.Dec.{ltb}
 use Rattle.reads.specs.Said.{NumberedBy}
 use Rattle.reads.proofs.Numbers.{has-values, has-number, whichever}
-use Rattle.reads.proofs.Tests.{never}
 use Rattle.tables.specs.Properties.{propertiesTable, propertiesEnd, propertiesAt}
 use Rattle.tables.specs.Accelerators.{acceleratorsEnd, acceleratorsAt}
 use Rattle.tables.specs.Metrics.{metricsTable, metricsEnd, metricsAt}
@@ -16,7 +13,6 @@ use Rattle.tables.specs.Bitmaps.{bitmapsTable, bitmapsEnd, bitmapsAt}
 use Rattle.tables.specs.Codes.{codesTable, codesEnd, codesAt}
 use Rattle.tables.specs.Names.{namesTable, namesEnd, namesAt}
 use Rattle.tables.specs.Values.{saidTable}
-use Rattle.tables.specs.Fits.{ladder, saidPermit}
 
 module _ (s : List ℕ) (at end : ℕ) where
   pub properties-at-refusals : NumberedBy (6 ∷ []) (saidTable (propertiesAt s at end))
@@ -46,9 +42,3 @@ module _ (s : List ℕ) (at end : ℕ) where
   pub names-at-refusals : NumberedBy (6 ∷ []) (saidTable (namesAt s at end))
   unfolding namesAt
   names-at-refusals = whichever saidTable (ltb end (namesEnd (namesTable s at))) (has-number refl) has-values
-
-pub guard-passes : (fits within : Bool) → (saidPermit (ladder fits within) .number ≡ 0) ↔ ((fits ≡ true) × (within ≡ true))
-unfolding ladder
-guard-passes true true = (λ e. (refl, refl), λ w. refl)
-guard-passes true false = (λ e. absurd (omega (arith, e)), λ (f, w). never w)
-guard-passes false within = (λ e. absurd (omega (arith, e)), λ (f, w). never f)

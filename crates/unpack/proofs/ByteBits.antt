@@ -11,9 +11,9 @@ use lib.ListN.{length, set}
 use mir.Syntax.{w64}
 use mir.Val.{Fits}
 use borrow.Author.Tests.{leb-false}
+use Rattle.reads.proofs.Tests.{or-neither}
 use Rattle.bitmaps.specs.Paint.{some, painted}
 use Rattle.bitmaps.specs.Rows.{column}
-use Rattle.bitmaps.proofs.Searching.{or-neither}
 use Rattle.bitmaps.proofs.Painting.{length-painted, set-painted, painted-none, painted-same, painted-or}
 use Rattle.bitmaps.proofs.SetBits.{first-bit, run-or-behind, withoutBit}
 use Rattle.unpack.specs.Stored.{inBits, bitsPast}

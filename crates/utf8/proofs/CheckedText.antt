@@ -24,22 +24,21 @@ module _ (text : List ℕ) where
   unfolding checkedText
   short-enough r h is = rw (le-leb (length text) 65535 h) is
 
+  walked : length text ≤ 65535 → checked (decoded text) ≡ checkedText text
+  walked h = short-enough (checked (decoded text)) h refl
+
   pub whole-walked : checkedText text ≡ Checked.Whole → (length text ≤ 65535) × (checked (decoded text) ≡ Checked.Whole)
   whole-walked e =
       split (leb (length text) 65535)
-      (λ t. let h = leb-true (length text) 65535 t in (h, short-enough (checked (decoded text)) h refl ∙ e))
+      (λ t. let h = leb-true (length text) 65535 t in (h, walked h ∙ e))
       (λ t.
       let d : Checked.Refused (refusal 19 0) ≡ Checked.Whole = too-long (leb-false (length text) 65535 t) ∙ e in
       let z : _≡_ {A = ℕ} 0 1 = cc in absurd (omega arith))
 
--- ---- by number, place and values
-
-module _ (text : List ℕ) where
-  walked : length text ≤ 65535 → checked (decoded text) ≡ checkedText text
-  walked h = short-enough text (checked (decoded text)) h refl
+  -- ---- by number, place and values
 
   whole-text : checkedText text ≡ Checked.Whole → (length text ≤ 65535) × WellFormed text
-  whole-text e = let (h, w) = whole-walked text e in (h, accepts text .0 w)
+  whole-text e = let (h, w) = whole-walked e in (h, accepts text .0 w)
 
   pub well-whole : length text ≤ 65535 → WellFormed text → checkedText text ≡ Checked.Whole
   well-whole h w = sym (walked h) ∙ accepts text .1 w
@@ -50,13 +49,13 @@ module _ (text : List ℕ) where
       (λ t. let h = leb-true (length text) 65535 t in let (number, ill) = refuses-at text r .0 (walked h ∙ e) in (number, inr (h, ill)))
       (λ t.
       let h = leb-false (length text) 65535 t in
-      let d : Checked.Refused (refusal 19 0) ≡ Checked.Refused r = too-long text h ∙ e in
+      let d : Checked.Refused (refusal 19 0) ≡ Checked.Refused r = too-long h ∙ e in
       let same : r ≡ refusal 19 0 = cc in
       (ap (λ (t : Refusal). t .number) same, inl (h, ap (λ (t : Refusal). t .place) same)))
 
   text-refused : (p : ℕ) → RefusedText text p → checkedText text ≡ Checked.Refused (refusal 19 p)
   text-refused p =
-      ⊎-elim (λ (h, z). sym (too-long text h) ∙ ap (λ (k : ℕ). Checked.Refused (refusal 19 k)) (sym z))
+      ⊎-elim (λ (h, z). sym (too-long h) ∙ ap (λ (k : ℕ). Checked.Refused (refusal 19 k)) (sym z))
       (λ (h, ill). sym (walked h) ∙ refuses-at text (refusal 19 p) .1 (refl, ill))
 
   accepted : (a : Checked) → checkedText text ≡ a → saidChecked a .number ≡ 0 → (length text ≤ 65535) × WellFormed text

@@ -10,7 +10,7 @@ use Rattle.utf8.specs.Step.{stepAt}
 use Rattle.utf8.specs.Decode.{Char, Decoded, chars, refused, consChar, afterStep, decodeFrom, decoded, checked}
 use Rattle.utf8.specs.declared.Checked.{Checked}
 use Rattle.utf8.specs.declared.Step.{Step}
-use Rattle.utf8.proofs.Walk.{step-within}
+use Rattle.utf8.proofs.Walk.{step-less}
 
 -- from byte i on the answer is this
 pub record Answer (text : List ℕ) (i : ℕ) (a : Checked) : Type 0 where
@@ -39,13 +39,10 @@ module _ (text : List ℕ) (i : ℕ) (a : Checked) (here : Step) (now : Answer t
   answer-bad r e = sym (stepped (Step.Refused r) e .2)
 
   module _ (code : CharCode) (next : ℕ) (read : here ≡ Step.Char code next) where
-    pub answer-less : length text - next < length text - i
-    answer-less = omega (arith, step-within text i code next (sym here-is ∙ read))
-
     pub answer-next : Answer text next a
     answer-next =
         let (f, h, e) = stepped (Step.Char code next) read in
-        record { fuel = f; enough = omega (arith, answer-less); is = e ∙ checked-cons (record { byte = i; code = code .0 }) (decodeFrom f text next) }
+        record { fuel = f; enough = omega (arith, step-less text i here code next here-is read); is = e ∙ checked-cons (record { byte = i; code = code .0 }) (decodeFrom f text next) }
 
 pub answer-all : (text : List ℕ) → Answer text 0 (checked (decoded text))
 unfolding decoded

@@ -23,6 +23,11 @@ step-within text i code next e = by (step-sequence text i code next e)
         let l : length text - i ≡ length (b ∷ q) + length (drop next text) = sym (length-drop i text) ∙ ap (λ (r : List ℕ). length r) d ∙ length-append (b ∷ q) (drop next text) in
         (omega (arith, n), omega (arith, n, l))
 
+-- so less is left after it
+pub step-less : (text : List ℕ) (i : ℕ) (here : Step) (code : CharCode) (next : ℕ) → here ≡ stepAt text i → here ≡ Step.Char code next
+    → length text - next < length text - i
+step-less text i here code next here-is read = omega (arith, step-within text i code next (sym here-is ∙ read))
+
 -- ---- what is left of a text
 
 -- from byte i on the characters are these

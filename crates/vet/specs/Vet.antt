@@ -83,11 +83,11 @@ vetLoaded s (Loaded.Refused r) = Vetted.Refused r
 unfoldable pub vetted : List ℕ → Vetted
 vetted s = vetLoaded s (loaded s)
 
--- the numbers of a refusal: "10, 11, 12, 14 over all rows, 17, 18" of a code's glyph, and before these "13; the bounds hold (11); every
--- property's strings end (18)"
+-- the numbers of a code's glyph: "10, 11, 12, 14 over all rows, 17, 18"
 abbrev pub ofGlyphs : List ℕ
 ofGlyphs = 10 ∷ 11 ∷ 12 ∷ 14 ∷ 17 ∷ 18 ∷ []
 
+-- the numbers of a refusal: those of loading, "13; the bounds hold (11); every property's strings end (18)", and those
 abbrev pub ofVetting : List ℕ
 ofVetting = ofLoading ++ (13 ∷ 11 ∷ 18 ∷ ofGlyphs)
 

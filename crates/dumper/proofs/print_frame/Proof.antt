@@ -1,5 +1,6 @@
 use borrow.Author.Needs.{needs}
-use Rattle.dumper.proofs.LineCounts.{frame-within, counted}
+use Rattle.reads.proofs.Lies.{counted}
+use Rattle.dumper.proofs.LineCounts.{frame-within}
 use Rattle.dumper.proofs.FramesFit.{no-other-refusal}
 use Rattle.dumper.proofs.print_frame.Statement.{statement}
 use Rattle.dumper.proofs.print_frame.Tie as tie

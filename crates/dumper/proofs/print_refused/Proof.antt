@@ -1,5 +1,6 @@
 use borrow.Author.Needs.{needs}
-use Rattle.dumper.proofs.LineCounts.{refused-within, counted}
+use Rattle.reads.proofs.Lies.{counted}
+use Rattle.dumper.proofs.LineCounts.{refused-within}
 use Rattle.dumper.proofs.FramesFit.{refused-fits}
 use Rattle.dumper.proofs.print_refused.Statement.{statement}
 use Rattle.dumper.proofs.print_refused.Tie as tie

@@ -10,7 +10,7 @@ use Rattle.hexline.specs.Fill.{hexInto, hexLeaves}
 use Rattle.hexline.specs.declared.HexRead.{HexRead}
 use Rattle.hexline.proofs.Filled.{Filled, filled, room-enough}
 use Rattle.hexline.proofs.Refusals.{fill-bytes-refusals}
-use Rattle.dumper.proofs.LineCounts.{counted}
+use Rattle.reads.proofs.Lies.{counted}
 use Rattle.vet.specs.Vet.{vetted}
 use Rattle.frames.specs.Dump.{dumpNumber, vettedNumber}
 use borrow.Author.Needs.{needs}

@@ -4,9 +4,9 @@ use mathlib.Core.Bool.{true, false, _||_, Bool·beq}
 use mathlib.Core.Logic.{⊎-elim}
 use lib.Dec.{eqb}
 use borrow.Author.Tests.{eqb-true, eqb-false}
+use Rattle.reads.proofs.Tests.{or-cases, or-neither}
 use Rattle.bitmaps.specs.Units.{byteOf}
 use Rattle.bitmaps.specs.declared.Order.{Order}
-use Rattle.bitmaps.proofs.Searching.{or-cases, or-neither}
 use Rattle.bitmaps.proofs.RowEnds.{four-bytes, held-alone, held-straight, held-mirrored}
 use borrow.Author.Needs.{needs}
 use Rattle.bitmaps.proofs.units.held_byte.Statement.{statement}

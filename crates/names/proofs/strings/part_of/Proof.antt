@@ -1,4 +1,6 @@
-use Rattle.names.proofs.Parts.{front-count, part-rest, part-front, stands-at}
+use native.Mathlib.Nat.{le-of-lt}
+use Rattle.reads.proofs.Lies.{counted}
+use Rattle.names.proofs.Parts.{part-rest, part-front, stands-at}
 use borrow.Author.Needs.{needs}
 use Rattle.names.proofs.strings.part_of.Statement.{statement}
 use Rattle.names.proofs.strings.part_of.Tie as tie
@@ -12,5 +14,5 @@ part-of-spec =
     (λ c. search needs)  -- part-rest-start
     (λ c. search needs)  -- part-rest-end
     (λ c. search (part-rest, stands-at))  -- returns
-    (λ c. search (front-count, needs))  -- slice-aggregate-result
+    (λ c. search (counted, le-of-lt, needs))  -- slice-aggregate-result
     (λ c. search (part-front, stands-at)))  -- returns-2

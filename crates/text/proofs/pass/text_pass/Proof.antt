@@ -2,6 +2,7 @@ use Prim.Native.Nat.{_-_}
 use native.Mathlib.Omega.{arith}
 use lib.ListN.{length}
 use Rattle.reads.proofs.Places.{known}
+use Rattle.utf8.proofs.Walk.{step-less}
 use Rattle.text.proofs.Turns.{
   Walking,
   walking-first,
@@ -15,7 +16,6 @@ use Rattle.text.proofs.Turns.{
   lent-still,
   pen-near,
   placed-near,
-  turn-less,
 }
 use borrow.Author.Needs.{needs}
 use Rattle.text.proofs.pass.text_pass.Statement.{statement}
@@ -45,7 +45,7 @@ text-pass-spec =
     let settled = known (tie.Start Inv-loop μ-loop) (search) .pre .0 in
     let readable = known (tie.Start Inv-loop μ-loop) (search) .pre .1 .0 in
     (omega (arith, settled .scale-high), search (placed-near, settled, readable)))  -- pen-after-requires
-    (λ c. search turn-less)  -- loop-less
+    (λ c. search step-less)  -- loop-less
     (λ c. search (walking-next, known (tie.Start Inv-loop μ-loop) (search) .pre .0))  -- loop-again
     (λ c. search needs)  -- enum-known-drawn-2
     (λ c. omega arith)  -- same-length

@@ -2,7 +2,8 @@
 use Prim.Native.Nat.{_-_}
 use lib.ListN.{length}
 use Rattle.utf8.specs.Decode.{decoded, checked}
-use Rattle.utf8.proofs.Rest.{Answer, answer-all, answer-less, answer-next, answer-end, answer-bad}
+use Rattle.utf8.proofs.Rest.{Answer, answer-all, answer-next, answer-end, answer-bad}
+use Rattle.utf8.proofs.Walk.{step-less}
 use borrow.Author.Needs.{needs}
 use Rattle.utf8.proofs.whole.walk.Statement.{statement}
 use Rattle.utf8.proofs.whole.walk.Tie as tie
@@ -22,7 +23,7 @@ walk-spec =
     (λ c. search answer-all)  -- loop-holds
     (λ c κs. search needs)  -- any-step-requires
     (λ c. search needs)  -- enum-known-here
-    (λ c. search answer-less)  -- loop-less
+    (λ c. search step-less)  -- loop-less
     (λ c. search answer-next)  -- loop-again
     (λ c. search needs)  -- enum-told
     (λ c. search answer-end)  -- returns
