@@ -75,7 +75,8 @@ def main():
         if (crate, name) not in theorems:
             bad.append(f"{crate}::{name} has no theorem that its contract determines its answer")
         elif theorems[crate, name] != determines(clauses):
-            bad.append(f"{crate}::{name} has a theorem on its {theorems[crate, name]}, not on its {determines(clauses)}")
+            has, must = theorems[crate, name], determines(clauses)
+            bad.append(f"{crate}::{name} has a theorem on its {has}, not on its {must}")
     lost = sorted(set(theorems) - found)
     bad += [f"{crate}::{name} has a theorem, but is no public function" for crate, name in lost]
     bad += [f"{crate}::{name} reads, but is no public function" for crate, name in sorted(READING - found)]

@@ -144,7 +144,8 @@ def theorems():
         return [n for w in words for n in ([int(w)] if w.isdigit() else numbers(shared[w]))]
 
     for path in files:
-        for m in re.finditer(r"^ *pub (\S+)-refusals :(.*?)^ *(?:unfolding|\1-refusals)\b", code.read(path), re.M | re.S):
+        stated = r"^ *pub (\S+)-refusals :(.*?)^ *(?:unfolding|\1-refusals)\b"
+        for m in re.finditer(stated, code.read(path), re.M | re.S):
             told = re.search(r"(NumberedBy|Refusals s rec) (\w+|\((?:[^()]|\([^()]*\))*\))", m[2])
             yield m[1].replace("-", "_"), (numbers(told[2]), told[1] != "NumberedBy")
 

@@ -5,7 +5,8 @@ font, the texts, the calls; crates/replay/src/calls.rt says where in a call each
 import model
 
 CALL = 64  # bytes of a call
-DRAWING = ["draw_bitmap", "draw_glyph", "draw_char", "unpack_glyph", "prep_char", "show_glyph", "draw_string", "step_at"]
+DRAWING = ["draw_bitmap", "draw_glyph", "draw_char", "unpack_glyph", "prep_char", "show_glyph", "draw_string",
+           "step_at"]
 READING = ["load_pcf", "prop_at", "get_glyph", "get_name", "get_metrics", "dimensions", "accelerators", "name_bytes",
            "all_codes"]
 PUTTING = ["check", "put_frame", "put_refused", "fill_bytes"]

@@ -236,8 +236,8 @@ def main():
     stored.hold_data("replay", files)
     stored.hold(want, write)
     print("replay: %d calls that draw in %d files, %d that read in %d, %d that put bytes or check a text in %d and %d "
-          "recorded ones in %d are as made, and the output agrees with the model; one font in %d orders has one answer to "
-          "each call" % (
+          "recorded ones in %d are as made, and the output agrees with the model; one font in %d orders has one answer "
+          "to each call" % (
               counted(seen[0], DRAWING), len(drawn), counted(seen[1], READING), len(read),
               counted(seen[2], PUTTING), len(put_in), counted(seen[3], {**DRAWING, **READING}), len(recorded),
               one_picture(drawn)))
