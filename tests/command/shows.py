@@ -9,11 +9,13 @@ from pcf.rewriting import reordered
 MOST_SHOWN = 573440  # the bytes that a font may have to show a text
 
 
-def panel_of(rows, dropped):
+def panel_of(rows, dropped, skipped):
     """what show prints"""
     words = {0: "no row dropped", 1: "1 row dropped: the bottom is cut"}
-    last = words.get(dropped, "%d rows dropped: the bottom is cut" % dropped)
-    return panel.half_blocks(rows) + last.encode() + b"\n"
+    last = words.get(dropped, "%d rows dropped: the bottom is cut" % dropped) + "\n"
+    if skipped:
+        last += "%d skipped: %s\n" % (len(skipped), " ".join(skipped))
+    return panel.half_blocks(rows) + last.encode()
 
 
 def drawn_by_model(font, text, width, height, scale, wrap):
@@ -23,13 +25,14 @@ def drawn_by_model(font, text, width, height, scale, wrap):
 
 
 def shown(folder):
-    """`wrap` is a number, None for no wrap, or nothing for the right end"""
+    """`wrap` is a number, None for no wrap, or nothing for the right end; `more` goes to the environment"""
     own, f = panel.meter.stored_font(), two_digits()
     store(folder, "f.pcf", f)
 
-    def same(what, words, text, width=72, height=21, scale=1, wrap="", font=own):
+    def same(what, words, text, width=72, height=21, scale=1, wrap="", font=own, **more):
         rows, dropped = drawn_by_model(font, text.encode(), width, height, scale, wrap)
-        expect(what, run("show", *words, folder=folder), 0, panel_of(rows, dropped), None)
+        output = panel_of(rows, dropped, panel.skipped(font, text.encode()))
+        expect(what, run("show", *words, folder=folder, **more), 0, output, None)
         return dropped
 
     both = panel.TEXT.decode()
@@ -58,7 +61,16 @@ def shown(folder):
         same("a far wrap", ["123456789012345", "--wrap", str(wrap)], "123456789012345", wrap=wrap)
     every = "".join(map(chr, [*range(0x20, 0x7F), 0xB0, 0xB2, 0xB3, 0xB5]))
     same("every letter", ["--width=200", "--height", "40", every], every, 200, 40)
-    same("a letter that the font lacks", ["1é2"], "1é2")
+    for text, names in panel.OF_METER:
+        same("the font lacks %s" % names, ["--", text], text)
+    for text, names in panel.OF_F:
+        same("two digits lack %s" % names, ["--font=f.pcf", "--", text], text, font=f)
+    edges = [code for low, high in panel.UNSEEN for code in (low - 1, low, high, high + 1) if code > 0]
+    same("seen and unseen", ["".join(map(chr, edges))], "".join(map(chr, edges)))
+    same("lacking and cut", ["8ü8", "--height", "5"], "8ü8", height=5)
+    same("as much lacking as may be", ["\x01" * 65535], "\x01" * 65535)
+    for locale in ("C", "C.UTF-8"):
+        same("named in the locale " + locale, ["süß"], "süß", LC_ALL=locale)
     for text, rows_lost in (("1", 1), ("12", 3)):
         if same("cut by a row", ["--height", "6", text], text, height=6) != rows_lost:
             fail("%s does not lose %d rows" % (text, rows_lost))

@@ -1,6 +1,7 @@
 #!/usr/bin/env python3
 """Holds crates/panel/stdout, which the program must write, to what the model of document 01 draws for
-crates/panel/stdin: a reading and a second line in the meter's font.
+crates/panel/stdin, a reading and a second line in the meter's font, and to what that font lacks of them. The rule for
+that, which tests/command asks too, is held to cases that are written out.
 
 With --write the input and the output are stored anew."""
 import os
@@ -12,11 +13,40 @@ sys.path[:0] = [TESTS, os.path.join(os.path.dirname(TESTS), "meter-font")]
 import make as meter  # noqa: E402
 import model  # noqa: E402
 import stored  # noqa: E402
+from common import fail  # noqa: E402
+from pcf.font_f import two_digits  # noqa: E402
 
 BLOCKS, PICTURE = 0, 1
 WIDTH, HEIGHT = 72, 21
 TEXT = "12 345 kWh\n3.07 m³  21 °C".encode()
+# the same page: what is more has no letter there, characters of one to four bytes
+LACKING = "12ü 345 kWh\r\n3.07 m³ €😀 21 °C\0\x1b".encode()
 NO_WRAP = 2 ** 64 - 1
+
+# codes that are written as such: nothing would be seen of the character, or a terminal might obey it
+UNSEEN = [(0, 0x20), (0x7F, 0xA0), (0xAD, 0xAD), (0x1680, 0x1680), (0x2000, 0x200F), (0x2028, 0x202F), (0x205F, 0x206F),
+          (0x3000, 0x3000), (0xFEFF, 0xFEFF), (0xFFF9, 0xFFFB), (0xE0000, 0xE0FFF)]
+
+# a text, and what is named of it: with the meter's font, which has printable ASCII and ° ² ³ µ
+OF_METER = [
+    ("", []),
+    ("12 345 kWh\r\n3.07 m³", []),
+    ("grün", ["ü"]),
+    ("süß, ß", ["ü", "ß", "ß"]),
+    ("\x7f1é2€3😀4\U0010FFFF", ["U+007F", "é", "€", "😀", "\U0010FFFF"]),
+    ("ä\r\nö\n\n\rü", ["ä", "ö", "ü"]),
+    ("\x1b[31m5\t\x1b", ["U+001B", "U+0009", "U+001B"]),
+    ("¡«\xa0»\xad®", ["¡", "«", "U+00A0", "»", "U+00AD", "®"]),
+    ("1\u200b\u20282\u2010\ufeff\ufffd\U000e0041", ["U+200B", "U+2028", "\u2010", "U+FEFF", "\ufffd", "U+E0041"]),
+]
+
+# and with font F, which has 0 and 1
+OF_F = [
+    ("0\r\n1", []),
+    ("0 1", ["U+0020"]),
+    ("0a ß€😀1", ["a", "U+0020", "ß", "€", "😀"]),
+    ("\\n%s*&/$HOME", ["\\", "n", "%", "s", "*", "&", "/", "$", "H", "O", "M", "E"]),
+]
 
 
 def request(kind, width, height, scale, wrap, text, font):
@@ -41,16 +71,29 @@ def half_blocks(rows):
     return "".join(line + "\n" for line in lines).encode()
 
 
+def skipped(font, text):
+    """what names each character that the font lacks, in the text's order; return and newline need no glyph"""
+    rec = model.vet(font)
+    lacking = [c for c in text.decode() if c not in "\r\n" and model.lookup(font, rec, ord(c)) is None]
+    return ["U+%04X" % ord(c) if any(low <= ord(c) <= high for low, high in UNSEEN) else c for c in lacking]
+
+
 def main():
     font = meter.stored_font()
+    for of, cases in ((font, OF_METER), (two_digits(), OF_F)):
+        for text, names in cases:
+            if skipped(of, text.encode()) != names:
+                fail("of %r is skipped %s" % (text, skipped(of, text.encode())))
     wrap = WIDTH + 1
-    high, dropped, rows = drawn(font, WIDTH, HEIGHT, 1, wrap, TEXT)
+    high, dropped, rows = drawn(font, WIDTH, HEIGHT, 1, wrap, LACKING)
+    said = b"dropped %d height %d\n" % (dropped, high) + " ".join(["skipped", *skipped(font, LACKING)]).encode() + b"\n"
     want = {
-        ("panel", "stdin"): request(BLOCKS, WIDTH, HEIGHT, 1, wrap, TEXT, font),
-        ("panel", "stdout"): half_blocks(rows) + b"dropped %d height %d\n" % (dropped, high),
+        ("panel", "stdin"): request(BLOCKS, WIDTH, HEIGHT, 1, wrap, LACKING, font),
+        ("panel", "stdout"): half_blocks(rows) + said,
     }
     stored.hold(want, sys.argv[1:] == ["--write"])
-    print("panel: %d pixels of %d set, as the model draws them" % (sum(map(sum, rows)), WIDTH * HEIGHT))
+    print("panel: %d pixels of %d set, as the model draws them; %d texts of which characters are skipped"
+          % (sum(map(sum, rows)), WIDTH * HEIGHT, len(OF_METER + OF_F)))
 
 
 if __name__ == "__main__":

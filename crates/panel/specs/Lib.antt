@@ -1,3 +1,4 @@
 pub mod Asked
 pub mod Blocks
 pub mod Picture
+pub mod Skipped

@@ -4,6 +4,7 @@ mod asked;
 mod blocks;
 mod lines;
 mod picture;
+mod skipped;
 
 use crate::asked::Asked;
 use crate::asked::HEAD;
@@ -12,10 +13,12 @@ use crate::asked::Request;
 use crate::asked::asked_of;
 use crate::blocks::print_blocks;
 use crate::picture::print_picture;
+use crate::skipped::print_skipped;
 use console::say;
 use console::say_item;
 use console::say_with;
 use reads::Refusal;
+use tables::EncodingData;
 use tables::Record;
 use text::TextDrawn;
 use text::TextRows;
@@ -35,9 +38,9 @@ const PIXELS: usize = 65536;
 
 const COLOUR: u32 = 1;
 
-// What came of a request; a refusal is the font's or the text's.
+// What came of a request: the text's rows and the font's codes, or a refusal of the font or the text.
 enum Shown {
-    Done(TextRows),
+    Done(TextRows, EncodingData),
     Font(Refusal),
     Text(Refusal),
 }
@@ -45,9 +48,10 @@ enum Shown {
 // The panel's pixels, all of them 0, are coloured.
 fn text_shown(r: Request, rec: Record, text: &[u8], font: &[u8], panel: &mut [u32]) -> Shown {
     let wrap = r.wrap;
+    let codes = rec.codes;
     let drawn = draw_string(font, rec, text, panel, 0, wrap, r.width, r.scale, COLOUR);
     match drawn {
-        TextDrawn::Done(rows) => Shown::Done(rows),
+        TextDrawn::Done(rows) => Shown::Done(rows, codes),
         TextDrawn::Refused(no) => Shown::Text(no),
     }
 }
@@ -69,8 +73,16 @@ fn refusal(r: Refusal, what: &[u8]) {
     say(what);
 }
 
-// The panel; after half blocks, what the text lost and how high it is.
-fn print_panel(r: Request, pixels: &[u32], rows: TextRows, out: &mut [u8])
+// The panel; after half blocks, what the text lost and how high it is, and what the font lacks.
+fn print_panel(
+    r: Request,
+    text: &[u8],
+    font: &[u8],
+    codes: EncodingData,
+    pixels: &[u32],
+    rows: TextRows,
+    out: &mut [u8],
+)
     requires { ⌜ (length (now pixels) ≤ 65536) × Sized r × (4 ≤ length (now out)) ⌝ }
 {
     if r.kind == PICTURE {
@@ -79,6 +91,7 @@ fn print_panel(r: Request, pixels: &[u32], rows: TextRows, out: &mut [u8])
     }
     print_blocks(pixels, r.width, out);
     say_with(b"dropped # height #\n", &[rows.dropped, rows.height]);
+    print_skipped(text, font, codes);
 }
 
 fn with_font(r: Request, text: &[u8], font: &[u8], panel: &mut [u32], out: &mut [u8])
@@ -86,7 +99,7 @@ fn with_font(r: Request, text: &[u8], font: &[u8], panel: &mut [u32], out: &mut 
 {
     let shown = font_shown(r, text, font, &mut *panel);
     match shown {
-        Shown::Done(rows) => print_panel(r, panel, rows, out),
+        Shown::Done(rows, codes) => print_panel(r, text, font, codes, panel, rows, out),
         Shown::Font(no) => refusal(no, b"font\n"),
         Shown::Text(no) => refusal(no, b"text\n"),
     }

@@ -1,0 +1,26 @@
+-- Which characters of a text are named as skipped, and which of these by their codes.
+use Prim.Native.Nat.{ℕ}
+use mathlib.Core.Bool.{Bool, false, not, _&&_, _||_}
+use lib.Dec.{leb, eqb}
+use Rattle.reads.specs.Range.{between}
+use Rattle.lookup.specs.declared.Found.{Found}
+
+-- "a code without glyph is skipped"; newline and carriage return, 10 and 13, need no glyph
+abbrev pub lacked : ℕ → Found → Bool
+lacked code (Found.Glyph g) = false
+lacked code (Found.Refused r) = not (eqb code 10) && not (eqb code 13)
+
+-- spaces, controls, and marks that take no room, as those of direction and of a line's end
+abbrev pub unseen : ℕ → Bool
+unseen code =
+    leb code 0x20
+    || between 0x7F 0xA0 code
+    || eqb code 0xAD
+    || eqb code 0x1680
+    || between 0x2000 0x200F code
+    || between 0x2028 0x202F code
+    || between 0x205F 0x206F code
+    || eqb code 0x3000
+    || eqb code 0xFEFF
+    || between 0xFFF9 0xFFFB code
+    || between 0xE0000 0xE0FFF code
