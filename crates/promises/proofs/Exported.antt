@@ -1,18 +1,19 @@
 -- What a caller in C reads off an exported function's answer is what document 01 says of the library's: number and place on a refusal, and
 -- the values where `refusal` is 0.
 use mathlib.Core.Path.{_≡_, refl}
-use mathlib.Core.Bool.{true, false}
+use mathlib.Core.Bool.{Bool, true, false, cond}
 use mathlib.Core.List.{List}
 use Prim.Native.Nat.{ℕ, zero, suc}
 use lib.IntN.{ℤ}
 use Rattle.reads.specs.Said.{refusal, refuses}
 use Rattle.reads.proofs.Numbers.{nought-answers}
+use Rattle.tables.specs.Fits.{guarded}
 use Rattle.tables.specs.declared.Record.{Record}
 use Rattle.load.specs.Load.{loaded, saidLoaded}
 use Rattle.load.specs.declared.Loaded.{Loaded}
 use Rattle.vet.specs.Vet.{vetted, saidVetted}
 use Rattle.vet.specs.declared.Vetted.{Vetted}
-use Rattle.lookup.specs.Lookup.{getGlyph, saidFound}
+use Rattle.lookup.specs.Lookup.{glyphOf, saidFound}
 use Rattle.lookup.specs.declared.Found.{Found}
 use Rattle.names.specs.Names.{getName, saidNamed}
 use Rattle.names.specs.declared.Named.{Named}
@@ -20,7 +21,8 @@ use Rattle.names.specs.declared.Span.{Span}
 use Rattle.props.specs.Props.{propAt, saidProp}
 use Rattle.props.specs.declared.PropValue.{PropValue}
 use Rattle.props.specs.declared.PropFound.{PropFound}
-use Rattle.metrics.specs.Measure.{getMetrics, saidMeasured}
+use Rattle.metrics.specs.Measure.{getMetrics, getAccelerators, saidMeasured, saidAccelerated}
+use Rattle.metrics.specs.declared.Accelerated.{Accelerated}
 use Rattle.metrics.specs.declared.Measured.{Measured}
 use Rattle.bitmaps.specs.Place.{Place}
 use Rattle.bitmaps.specs.Draw.{drawBitmap, saidDrawn}
@@ -28,7 +30,7 @@ use Rattle.bitmaps.specs.Unpack.{saidUnpacked}
 use Rattle.bitmaps.specs.declared.Drawn.{Drawn}
 use Rattle.bitmaps.specs.declared.Unpacked.{Unpacked}
 use Rattle.place.specs.Bounds.{dimensions, saidSized}
-use Rattle.place.specs.Info.{prepChar, saidPrepared}
+use Rattle.place.specs.Info.{preparedIn, saidPrepared}
 use Rattle.place.specs.declared.Sized.{Sized}
 use Rattle.place.specs.declared.GlyphInfo.{GlyphInfo}
 use Rattle.place.specs.declared.Prepared.{Prepared}
@@ -39,24 +41,25 @@ use Rattle.glyphs.specs.declared.CharDrawn.{CharDrawn}
 use Rattle.utf8.specs.Step.{stepAt, saidStep}
 use Rattle.utf8.specs.declared.Step.{Step}
 use Rattle.text.specs.Text.{drawString, saidText}
+use Rattle.text.specs.declared.Layout.{Layout}
 use Rattle.text.specs.declared.TextDrawn.{TextDrawn}
 use Rattle.font.specs.Shown.{asLoaded, recordOf}
-use Rattle.thalluskin.specs.Reading.{fontAnswer, propAnswer, propertyAnswer, glyphAnswer, nameAnswer, metricsAnswer}
+use Rattle.thalluskin.specs.Modes.{isKnown}
+use Rattle.thalluskin.specs.Reading.{fontAnswer, propAnswer, propertyAnswer, glyphAnswer, nameAnswer, metricsAnswer, accelAnswer}
 use Rattle.thalluskin.specs.Placing.{extentAnswer, infoAnswer}
 use Rattle.thalluskin.specs.Drawing.{rowsAnswer, charAnswer, unpackAnswer}
-use Rattle.thalluskin.specs.Texts.{layout, textAnswer, stepAnswer}
+use Rattle.thalluskin.specs.Texts.{textAnswer, stepAnswer}
 use Rattle.load.proofs.Refusals.{load-pcf-refusals}
 use Rattle.utf8.proofs.Refusals.{step-at-refusals}
 use Rattle.vet.proofs.Refusals.{vet-refusals}
 use Rattle.promises.specs.Refusals.{Answers}
-use Rattle.promises.specs.Exported.{readOff, saysFont, saysProperty, saysGlyph, saysName, saysMetrics, saysExtent, saysInfo, saysRows, saysChar, saysUnpack, saysText, saysStep}
+use Rattle.promises.specs.Exported.{readOff, saysFont, saysProperty, saysGlyph, saysName, saysMetrics, saysAccel, saysExtent, saysInfo, saysRows, saysChar, saysUnpack, saysText, saysStep}
 use Rattle.promises.proofs.Refusals.{
   prop-at-refusals,
-  get-glyph-refusals,
   get-name-refusals,
   get-metrics-refusals,
+  get-accelerators-refusals,
   dimensions-refusals,
-  prep-char-refusals,
 }
 use Rattle.promises.proofs.DrawingRefusals.{
   draw-bitmap-refusals,
@@ -65,6 +68,7 @@ use Rattle.promises.proofs.DrawingRefusals.{
   unpack-glyph-refusals,
   draw-string-refusals,
 }
+use Rattle.promises.proofs.ExportedRefusals.{thalluskin-glyph-refusals, thalluskin-prep-char-refusals}
 
 -- beside a refusal's number no value is read
 a-refusal : (n place : ℕ) (values : List ℤ) → Answers (refuses (refusal n place)) → readOff n place values ≡ refuses (refusal n place)
@@ -90,6 +94,10 @@ name-read (Named.Refused r) h = a-refusal (r .number) (r .place) _ h
 metrics-read : (x : Measured) → Answers (saidMeasured x) → saysMetrics (metricsAnswer x) ≡ saidMeasured x
 metrics-read (Measured.Metrics m) h = refl
 metrics-read (Measured.Refused r) h = a-refusal (r .number) (r .place) _ h
+
+accel-read : (x : Accelerated) → Answers (saidAccelerated x) → saysAccel (accelAnswer x) ≡ saidAccelerated x
+accel-read (Accelerated.Accelerators a) h = refl
+accel-read (Accelerated.Refused r) h = a-refusal (r .number) (r .place) _ h
 
 extent-read : (x : Sized) → Answers (saidSized x) → saysExtent (extentAnswer x) ≡ saidSized x
 extent-read (Sized.Dimensions d) h = refl
@@ -132,15 +140,24 @@ pub load-says : (s : List ℕ) → saysFont (fontAnswer (recordOf s false)) ≡ 
 unfolding recordOf
 load-says s = font-read (loaded s) (nought-answers refl (load-pcf-refusals s))
 
-pub vet-says : (s : List ℕ) → saysFont (fontAnswer (recordOf s true)) ≡ saidVetted (vetted s)
+-- in an unknown mode 15, and nothing is read
+pub vet-says : (s : List ℕ) (mode : ℕ)
+    → saysFont (fontAnswer (cond (isKnown mode) (recordOf s true) (Loaded.Refused (refusal 15 0)))) ≡ cond (isKnown mode) (saidVetted (vetted s)) (refuses (refusal 15 0))
 unfolding recordOf
-vet-says s = vet-read (vetted s) (nought-answers refl (vet-refusals s))
+vet-says s mode = by (isKnown mode) where
+  by : (known : Bool)
+      → saysFont (fontAnswer (cond known (asLoaded (vetted s)) (Loaded.Refused (refusal 15 0)))) ≡ cond known (saidVetted (vetted s)) (refuses (refusal 15 0))
+  by true = vet-read (vetted s) (nought-answers refl (vet-refusals s))
+  by false = refl
 
 pub property-says : (s : List ℕ) (rec : Record) (number : ℕ) → saysProperty (propertyAnswer (propAt s rec number)) ≡ saidProp (propAt s rec number)
 property-says s rec number = property-read (propAt s rec number) (nought-answers refl (prop-at-refusals s rec number .numbered))
 
-pub glyph-says : (s : List ℕ) (rec : Record) (code : ℕ) → saysGlyph (glyphAnswer (getGlyph s rec code)) ≡ saidFound (getGlyph s rec code)
-glyph-says s rec code = glyph-read (getGlyph s rec code) (nought-answers refl (get-glyph-refusals s rec code .numbered))
+pub glyph-says : (s : List ℕ) (rec : Record) (code mode : ℕ)
+    → let g = guarded Found.Refused s rec (isKnown mode) (glyphOf s (rec .codes) code) in saysGlyph (glyphAnswer g) ≡ saidFound g
+glyph-says s rec code mode =
+    let g = guarded Found.Refused s rec (isKnown mode) (glyphOf s (rec .codes) code) in
+    glyph-read g (nought-answers refl (thalluskin-glyph-refusals s rec code mode .numbered))
 
 pub name-says : (s : List ℕ) (rec : Record) (glyph : ℕ) → saysName (nameAnswer (getName s rec glyph)) ≡ saidNamed (getName s rec glyph)
 name-says s rec glyph = name-read (getName s rec glyph) (nought-answers refl (get-name-refusals s rec glyph .numbered))
@@ -148,11 +165,17 @@ name-says s rec glyph = name-read (getName s rec glyph) (nought-answers refl (ge
 pub metrics-says : (s : List ℕ) (rec : Record) (glyph : ℕ) → saysMetrics (metricsAnswer (getMetrics s rec glyph)) ≡ saidMeasured (getMetrics s rec glyph)
 metrics-says s rec glyph = metrics-read (getMetrics s rec glyph) (nought-answers refl (get-metrics-refusals s rec glyph .numbered))
 
+pub accel-says : (s : List ℕ) (rec : Record) → saysAccel (accelAnswer (getAccelerators s rec)) ≡ saidAccelerated (getAccelerators s rec)
+accel-says s rec = accel-read (getAccelerators s rec) (nought-answers refl (get-accelerators-refusals s rec .numbered))
+
 pub dimensions-says : (s : List ℕ) (rec : Record) → saysExtent (extentAnswer (dimensions s rec)) ≡ saidSized (dimensions s rec)
 dimensions-says s rec = extent-read (dimensions s rec) (nought-answers refl (dimensions-refusals s rec .numbered))
 
-pub prep-char-says : (s : List ℕ) (rec : Record) (code : ℕ) → saysInfo (infoAnswer (prepChar s rec code)) ≡ saidPrepared (prepChar s rec code)
-prep-char-says s rec code = info-read (prepChar s rec code) (nought-answers refl (prep-char-refusals s rec code .numbered))
+pub prep-char-says : (s : List ℕ) (rec : Record) (code mode : ℕ)
+    → let p = guarded Prepared.Refused s rec (isKnown mode) (preparedIn s rec code) in saysInfo (infoAnswer p) ≡ saidPrepared p
+prep-char-says s rec code mode =
+    let p = guarded Prepared.Refused s rec (isKnown mode) (preparedIn s rec code) in
+    info-read p (nought-answers refl (thalluskin-prep-char-refusals s rec code mode .numbered))
 
 pub draw-bitmap-says : (s : List ℕ) (rec : Record) (glyph width height len : ℕ) (at : Place)
     → let d = drawBitmap s rec glyph width height len at in saysRows (rowsAnswer d) ≡ saidDrawn d
@@ -175,10 +198,9 @@ unpack-glyph-says s rec info len start stride =
     unpack-read (unpackGlyph s rec info len start stride) (nought-answers refl (unpack-glyph-refusals s rec info len start stride .numbered))
 
 -- of the drawing and of its dry run, which answer the same
-pub draw-string-says : (s : List ℕ) (rec : Record) (text : List ℕ) (len start wrap stride scale : ℕ)
-    → let d = drawString s rec text len (layout start wrap stride scale) in saysText (textAnswer d) ≡ saidText d
-draw-string-says s rec text len start wrap stride scale =
-    let lay = layout start wrap stride scale in
+pub draw-string-says : (s : List ℕ) (rec : Record) (text : List ℕ) (len : ℕ) (lay : Layout)
+    → let d = drawString s rec text len lay in saysText (textAnswer d) ≡ saidText d
+draw-string-says s rec text len lay =
     text-read (drawString s rec text len lay) (nought-answers refl (draw-string-refusals s rec text len lay .numbered))
 
 pub utf8-step-says : (text : List ℕ) (i : ℕ) → saysStep (stepAnswer (stepAt text i)) ≡ saidStep (stepAt text i)

@@ -7,6 +7,8 @@ mod UniqueFont
 mod RecordTest
 mod Refusals
 mod DrawingRefusals
+mod ExportedRefusals
+mod UnknownMode
 mod Exported
 mod Vetting
 mod VettingRefuses

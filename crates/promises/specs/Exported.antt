@@ -1,10 +1,14 @@
--- What a caller in C reads off an answer: the values where `refusal` is 0, else that number and the place.
+-- What a caller in C reads off an answer: the values where `refusal` is 0, else that number and the place. And what a call with a record
+-- answers in an unknown mode.
 use mathlib.Core.Bool.{cond}
 use mathlib.Core.List.{List, [], _∷_, _++_}
 use Prim.Native.Nat.{ℕ, zero, suc}
 use lib.IntN.{ℤ, pos}
 use Rattle.reads.specs.Said.{Said, refusal, says, refuses}
-use Rattle.tables.specs.Values.{metricsValues, recordValues}
+use Rattle.reads.specs.declared.Refusal.{Refusal}
+use Rattle.tables.specs.Fits.{tested}
+use Rattle.tables.specs.Values.{metricsValues, acceleratorValues, recordValues}
+use Rattle.tables.specs.declared.Record.{Record}
 use Rattle.bitmaps.specs.Draw.{rowsValues}
 use Rattle.place.specs.Info.{infoValues}
 use Rattle.thalluskin.specs.declared.FontAnswer.{FontAnswer}
@@ -12,6 +16,7 @@ use Rattle.thalluskin.specs.declared.PropertyAnswer.{PropertyAnswer}
 use Rattle.thalluskin.specs.declared.GlyphAnswer.{GlyphAnswer}
 use Rattle.thalluskin.specs.declared.NameAnswer.{NameAnswer}
 use Rattle.thalluskin.specs.declared.MetricsAnswer.{MetricsAnswer}
+use Rattle.thalluskin.specs.declared.AccelAnswer.{AccelAnswer}
 use Rattle.thalluskin.specs.declared.ExtentAnswer.{ExtentAnswer}
 use Rattle.thalluskin.specs.declared.InfoAnswer.{InfoAnswer}
 use Rattle.thalluskin.specs.declared.RowsAnswer.{RowsAnswer}
@@ -44,6 +49,9 @@ saysName a = readOff (a .refusal) (a .place) (pos (a .name .start) ∷ pos (a .n
 abbrev pub saysMetrics : MetricsAnswer → Said
 saysMetrics a = readOff (a .refusal) (a .place) (metricsValues (a .metrics))
 
+abbrev pub saysAccel : AccelAnswer → Said
+saysAccel a = readOff (a .refusal) (a .place) (acceleratorValues (a .accel))
+
 abbrev pub saysExtent : ExtentAnswer → Said
 saysExtent a = readOff (a .refusal) (a .place) (pos (a .extent .height) ∷ pos (a .extent .width) ∷ [])
 
@@ -66,3 +74,7 @@ saysText a = readOff (a .refusal) (a .place) (pos (a .rows .height) ∷ pos (a .
 abbrev pub saysStep : StepAnswer → Said
 saysStep a =
     readOff (a .refusal) (a .place) (cond (a .found) (pos 1 ∷ pos (a .code .0) ∷ pos (a .next) ∷ []) (pos 0 ∷ []))
+
+-- 6 for a record that does not fit the bytes, else 15
+abbrev pub unknownMode : List ℕ → Record → Refusal
+unknownMode s rec = tested (λ r. r) s rec (refusal 15 0)

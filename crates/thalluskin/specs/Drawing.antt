@@ -1,12 +1,19 @@
--- What the exported functions of drawing answer.
+-- What the exported functions of drawing take and answer.
+use Rattle.bitmaps.specs.Place.{Place, placeAt}
 use Rattle.bitmaps.specs.declared.Rows.{Rows}
 use Rattle.bitmaps.specs.declared.Drawn.{Drawn}
 use Rattle.bitmaps.specs.declared.Unpacked.{Unpacked}
 use Rattle.glyphs.specs.declared.CharDrawn.{CharDrawn}
+use Rattle.thalluskin.specs.Modes.{strideOf}
 use Rattle.thalluskin.specs.Placing.{noInfo}
+use Rattle.thalluskin.specs.declared.PageNumbers.{PageNumbers}
 use Rattle.thalluskin.specs.declared.RowsAnswer.{RowsAnswer}
 use Rattle.thalluskin.specs.declared.CharAnswer.{CharAnswer}
 use Rattle.thalluskin.specs.declared.UnpackAnswer.{UnpackAnswer}
+
+-- where a drawing with these numbers happens
+abbrev pub placeOf : PageNumbers → Place
+placeOf page = placeAt (page .start) (strideOf page) (page .scale)
 
 abbrev pub noRows : Rows
 noRows = record { drawn = 0; dropped = 0 }

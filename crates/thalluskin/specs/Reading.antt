@@ -1,5 +1,6 @@
 -- What the exported functions of loading and reading answer: the refusal's number, 0 for none, and the place; then the values. From document
 -- 01: "A refusal returns its number, a place and no other value"; where there is none, a struct has 0.
+use Prim.Native.Nat.{ℕ}
 use mathlib.Core.Bool.{true, false}
 use Rattle.load.specs.Gather.{noMetrics, blank}
 use Rattle.load.specs.declared.Loaded.{Loaded}
@@ -10,11 +11,17 @@ use Rattle.props.specs.declared.Property.{Property}
 use Rattle.props.specs.declared.PropValue.{PropValue}
 use Rattle.props.specs.declared.PropFound.{PropFound}
 use Rattle.metrics.specs.declared.Measured.{Measured}
+use Rattle.metrics.specs.declared.Accelerated.{Accelerated}
 use Rattle.thalluskin.specs.declared.FontAnswer.{FontAnswer}
 use Rattle.thalluskin.specs.declared.PropertyAnswer.{PropertyAnswer}
 use Rattle.thalluskin.specs.declared.GlyphAnswer.{GlyphAnswer}
 use Rattle.thalluskin.specs.declared.NameAnswer.{NameAnswer}
 use Rattle.thalluskin.specs.declared.MetricsAnswer.{MetricsAnswer}
+use Rattle.thalluskin.specs.declared.AccelAnswer.{AccelAnswer}
+
+-- 0.1.0: 10,000 times the first number, 100 times the second, and the third
+abbrev pub version : ℕ
+version = 100
 
 abbrev pub fontAnswer : Loaded → FontAnswer
 fontAnswer (Loaded.Font rec) = record { refusal = 0; place = 0; rec = rec }
@@ -49,3 +56,7 @@ nameAnswer (Named.Refused r) = record { refusal = r .number; place = r .place; n
 abbrev pub metricsAnswer : Measured → MetricsAnswer
 metricsAnswer (Measured.Metrics m) = record { refusal = 0; place = 0; metrics = m }
 metricsAnswer (Measured.Refused r) = record { refusal = r .number; place = r .place; metrics = noMetrics }
+
+abbrev pub accelAnswer : Accelerated → AccelAnswer
+accelAnswer (Accelerated.Accelerators a) = record { refusal = 0; place = 0; accel = a }
+accelAnswer (Accelerated.Refused r) = record { refusal = r .number; place = r .place; accel = blank .accel }

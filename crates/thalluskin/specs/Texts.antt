@@ -1,16 +1,17 @@
 -- What the exported functions of texts take and answer.
-use Prim.Native.Nat.{ℕ}
 use mathlib.Core.Bool.{true, false}
 use Rattle.text.specs.Walk.{wrapOf}
 use Rattle.text.specs.declared.Layout.{Layout}
 use Rattle.text.specs.declared.TextDrawn.{TextDrawn}
 use Rattle.utf8.specs.declared.Step.{Step}
+use Rattle.thalluskin.specs.Modes.{strideOf}
+use Rattle.thalluskin.specs.declared.PageNumbers.{PageNumbers}
 use Rattle.thalluskin.specs.declared.TextAnswer.{TextAnswer}
 use Rattle.thalluskin.specs.declared.StepAnswer.{StepAnswer}
 
--- where and how a text is set, with `wrap` as one number
-abbrev pub layout : ℕ → ℕ → ℕ → ℕ → Layout
-layout start wrap stride scale = record { start = start; wrap = wrapOf wrap; stride = stride; scale = scale }
+-- where and how a text with these numbers is set
+abbrev pub layoutOf : PageNumbers → Layout
+layoutOf page = record { start = page .start; wrap = wrapOf (page .wrap); stride = strideOf page; scale = page .scale }
 
 abbrev pub textAnswer : TextDrawn → TextAnswer
 textAnswer (TextDrawn.Done t) = record { refusal = 0; place = 0; rows = t }

@@ -1,7 +1,10 @@
 // Drawing and unpacking one glyph.
+use crate::Bitmap;
 use crate::CharAnswer;
+use crate::PageNumbers;
 use crate::RowsAnswer;
 use crate::UnpackAnswer;
+use crate::modes::stride_of;
 use crate::placing::no_info;
 use bitmaps::Drawn;
 use bitmaps::Rows;
@@ -13,16 +16,15 @@ use glyphs::unpack_glyph;
 use paint::draw_bitmap;
 use place::GlyphInfo;
 use reads::CharCode;
-use reads::GlyphIndex;
 use tables::Record;
 ghost use mathlib.Core.Path.{_≡_};
 ghost use lib.ListN.{length};
-ghost use Rattle.bitmaps.specs.Place.{placeAt};
 ghost use Rattle.bitmaps.specs.Draw.{drawBitmap, shownLeaves};
 ghost use Rattle.glyphs.specs.Glyph.{drawGlyph, glyphLeaves};
 ghost use Rattle.glyphs.specs.Char.{drawChar, charLeaves};
 ghost use Rattle.glyphs.specs.Unpack.{unpackGlyph, unpackLeaves};
-ghost use Rattle.thalluskin.specs.Drawing.{rowsAnswer, charAnswer, unpackAnswer};
+ghost use Rattle.thalluskin.specs.Modes.{strideOf};
+ghost use Rattle.thalluskin.specs.Drawing.{placeOf, rowsAnswer, charAnswer, unpackAnswer};
 
 // What drawing a glyph answered.
 fn rows_answer(drawn: Drawn) -> RowsAnswer
@@ -45,54 +47,56 @@ fn rows_answer(drawn: Drawn) -> RowsAnswer
     }
 }
 
-// Draws a glyph's bitmap at `start`, as `paint::draw_bitmap` does. Refused, with place 0 and no pixel coloured: 6, 15,
-// 12, 13, 14, 16.
+// Draws a glyph's bitmap at `start`, as `paint::draw_bitmap` does. Refused, with place 0 and no pixel coloured: 6, 15, an
+// unknown mode too, 12, 13, 14, 16.
 #[no_mangle]
-pub extern "C" fn thk_draw_bitmap(
+pub extern "C" fn thalluskin_draw_bitmap(
     bytes: &[u8],
     rec: Record,
-    glyph: GlyphIndex,
-    width: usize,
-    height: usize,
+    bitmap: Bitmap,
     buf: &mut [u32],
-    start: usize,
-    stride: usize,
-    scale: usize,
-    colour: u32,
+    page: PageNumbers,
 ) -> RowsAnswer
-    ensures { λ r. ⌜ r ≡ rowsAnswer (drawBitmap (now (bytes .entry)) rec (glyph .0) width height (length (now (buf .entry))) (placeAt start stride scale)) ⌝ }
-    ensures { λ r. ⌜ now (buf .exit) ≡ shownLeaves (now (bytes .entry)) (rec .bitmaps) (glyph .0) width (placeAt start stride scale) colour (drawBitmap (now (bytes .entry)) rec (glyph .0) width height (length (now (buf .entry))) (placeAt start stride scale)) (now (buf .entry)) ⌝ }
+    ensures { λ r. ⌜ r ≡ rowsAnswer (drawBitmap (now (bytes .entry)) rec (bitmap .glyph .0) (bitmap .width) (bitmap .height) (length (now (buf .entry))) (placeOf page)) ⌝ }
+    ensures { λ r. ⌜ now (buf .exit) ≡ shownLeaves (now (bytes .entry)) (rec .bitmaps) (bitmap .glyph .0) (bitmap .width) (placeOf page) (page .colour) (drawBitmap (now (bytes .entry)) rec (bitmap .glyph .0) (bitmap .width) (bitmap .height) (length (now (buf .entry))) (placeOf page)) (now (buf .entry)) ⌝ }
 {
     rows_answer(draw_bitmap(
         bytes,
         rec,
-        glyph,
-        width,
-        height,
+        bitmap.glyph,
+        bitmap.width,
+        bitmap.height,
         &mut *buf,
-        start,
-        stride,
-        scale,
-        colour,
+        page.start,
+        stride_of(page),
+        page.scale,
+        page.colour,
     ))
 }
 
-// Draws a placed glyph, as `glyphs::draw_glyph` does. Refused, with place 0 and no pixel coloured: 6, 15, 13, 14, 16.
+// Draws a placed glyph, as `glyphs::draw_glyph` does. Refused, with place 0 and no pixel coloured: 6, 15, an unknown mode
+// too, 13, 14, 16.
 #[no_mangle]
-pub extern "C" fn thk_draw_glyph(
+pub extern "C" fn thalluskin_draw_glyph(
     bytes: &[u8],
     rec: Record,
     info: GlyphInfo,
     buf: &mut [u32],
-    start: usize,
-    stride: usize,
-    scale: usize,
-    colour: u32,
+    page: PageNumbers,
 ) -> RowsAnswer
-    ensures { λ r. ⌜ r ≡ rowsAnswer (drawGlyph (now (bytes .entry)) rec info (length (now (buf .entry))) (placeAt start stride scale)) ⌝ }
-    ensures { λ r. ⌜ now (buf .exit) ≡ glyphLeaves (now (bytes .entry)) rec info (placeAt start stride scale) colour (drawGlyph (now (bytes .entry)) rec info (length (now (buf .entry))) (placeAt start stride scale)) (now (buf .entry)) ⌝ }
+    ensures { λ r. ⌜ r ≡ rowsAnswer (drawGlyph (now (bytes .entry)) rec info (length (now (buf .entry))) (placeOf page)) ⌝ }
+    ensures { λ r. ⌜ now (buf .exit) ≡ glyphLeaves (now (bytes .entry)) rec info (placeOf page) (page .colour) (drawGlyph (now (bytes .entry)) rec info (length (now (buf .entry))) (placeOf page)) (now (buf .entry)) ⌝ }
 {
-    rows_answer(draw_glyph(bytes, rec, info, &mut *buf, start, stride, scale, colour))
+    rows_answer(draw_glyph(
+        bytes,
+        rec,
+        info,
+        &mut *buf,
+        page.start,
+        stride_of(page),
+        page.scale,
+        page.colour,
+    ))
 }
 
 // What drawing a character answered.
@@ -118,23 +122,29 @@ fn char_answer(drawn: CharDrawn) -> CharAnswer
     }
 }
 
-// Draws a character, as `glyphs::draw_char` does. Refused, with place 0 and no pixel coloured: 6, 15, 9, 10, 11, 13,
-// 14, 16.
+// Draws a character, as `glyphs::draw_char` does. Refused, with place 0 and no pixel coloured: 6, 15, an unknown mode too,
+// 9, 10, 11, 13, 14, 16.
 #[no_mangle]
-pub extern "C" fn thk_draw_char(
+pub extern "C" fn thalluskin_draw_char(
     bytes: &[u8],
     rec: Record,
     code: CharCode,
     buf: &mut [u32],
-    start: usize,
-    stride: usize,
-    scale: usize,
-    colour: u32,
+    page: PageNumbers,
 ) -> CharAnswer
-    ensures { λ r. ⌜ r ≡ charAnswer (drawChar (now (bytes .entry)) rec (code .0) (length (now (buf .entry))) (placeAt start stride scale)) ⌝ }
-    ensures { λ r. ⌜ now (buf .exit) ≡ charLeaves (now (bytes .entry)) rec (placeAt start stride scale) colour (drawChar (now (bytes .entry)) rec (code .0) (length (now (buf .entry))) (placeAt start stride scale)) (now (buf .entry)) ⌝ }
+    ensures { λ r. ⌜ r ≡ charAnswer (drawChar (now (bytes .entry)) rec (code .0) (length (now (buf .entry))) (placeOf page)) ⌝ }
+    ensures { λ r. ⌜ now (buf .exit) ≡ charLeaves (now (bytes .entry)) rec (placeOf page) (page .colour) (drawChar (now (bytes .entry)) rec (code .0) (length (now (buf .entry))) (placeOf page)) (now (buf .entry)) ⌝ }
 {
-    char_answer(draw_char(bytes, rec, code, &mut *buf, start, stride, scale, colour))
+    char_answer(draw_char(
+        bytes,
+        rec,
+        code,
+        &mut *buf,
+        page.start,
+        stride_of(page),
+        page.scale,
+        page.colour,
+    ))
 }
 
 // What unpacking a glyph answered.
@@ -155,19 +165,18 @@ fn unpack_answer(unpacked: Unpacked) -> UnpackAnswer
     }
 }
 
-// Stores 1 for each set bit of a placed glyph's whole row bytes, as `glyphs::unpack_glyph` does. Refused, with place 0
-// and no byte changed: 6, 15, 13, 14, 16.
+// Stores 1 for each set bit of a placed glyph, as `glyphs::unpack_glyph` does. Refused, with place 0 and no byte changed:
+// 6, 15, an unknown mode too, 13, 14, 16.
 #[no_mangle]
-pub extern "C" fn thk_unpack_glyph(
+pub extern "C" fn thalluskin_unpack_glyph(
     bytes: &[u8],
     rec: Record,
     info: GlyphInfo,
     buf: &mut [u8],
-    start: usize,
-    stride: usize,
+    page: PageNumbers,
 ) -> UnpackAnswer
-    ensures { λ r. ⌜ r ≡ unpackAnswer (unpackGlyph (now (bytes .entry)) rec info (length (now (buf .entry))) start stride) ⌝ }
-    ensures { λ r. ⌜ now (buf .exit) ≡ unpackLeaves (now (bytes .entry)) rec info start stride (unpackGlyph (now (bytes .entry)) rec info (length (now (buf .entry))) start stride) (now (buf .entry)) ⌝ }
+    ensures { λ r. ⌜ r ≡ unpackAnswer (unpackGlyph (now (bytes .entry)) rec info (length (now (buf .entry))) (page .start) (strideOf page)) ⌝ }
+    ensures { λ r. ⌜ now (buf .exit) ≡ unpackLeaves (now (bytes .entry)) rec info (page .start) (strideOf page) (unpackGlyph (now (bytes .entry)) rec info (length (now (buf .entry))) (page .start) (strideOf page)) (now (buf .entry)) ⌝ }
 {
-    unpack_answer(unpack_glyph(bytes, rec, info, &mut *buf, start, stride))
+    unpack_answer(unpack_glyph(bytes, rec, info, &mut *buf, page.start, stride_of(page)))
 }

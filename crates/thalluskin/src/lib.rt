@@ -1,38 +1,62 @@
 // The library for C, and for what can call C: each function here is one of the library's, in a form that
-// other languages have. Bytes, texts and buffers are a pointer and a length; the record and the answers
-// are structs by value. `include/thalluskin.h` says all this to C.
+// other languages have. Bytes, texts and buffers are a pointer and a length; the record, a drawing's numbers
+// and the answers are structs by value. `include/thalluskin.h` says all this to C.
 //
 // Every answer begins with `refusal`, the refusal's number or 0 for none, and `place`; then come the values,
-// which on a refusal are 0.
+// which on a refusal are 0. A mode other than 0 is refused (15).
 mod drawing;
+mod modes;
 mod placing;
 mod reading;
 mod texts;
 
 use bitmaps::Rows;
-pub use drawing::thk_draw_bitmap;
-pub use drawing::thk_draw_char;
-pub use drawing::thk_draw_glyph;
-pub use drawing::thk_unpack_glyph;
+pub use drawing::thalluskin_draw_bitmap;
+pub use drawing::thalluskin_draw_char;
+pub use drawing::thalluskin_draw_glyph;
+pub use drawing::thalluskin_unpack_glyph;
 use names::Span;
 use place::Extent;
 use place::GlyphInfo;
-pub use placing::thk_dimensions;
-pub use placing::thk_prep_char;
-pub use reading::thk_glyph;
-pub use reading::thk_load;
-pub use reading::thk_metrics;
-pub use reading::thk_name;
-pub use reading::thk_property;
-pub use reading::thk_vet;
+pub use placing::thalluskin_dimensions;
+pub use placing::thalluskin_prep_char;
+pub use reading::thalluskin_accel;
+pub use reading::thalluskin_glyph;
+pub use reading::thalluskin_load;
+pub use reading::thalluskin_metrics;
+pub use reading::thalluskin_name;
+pub use reading::thalluskin_property;
+pub use reading::thalluskin_version;
+pub use reading::thalluskin_vet;
 use reads::CharCode;
 use reads::GlyphIndex;
+use tables::AcceleratorUnpacked;
 use tables::MetricsUnpacked;
 use tables::Record;
 use text::TextRows;
-pub use texts::thk_draw_string;
-pub use texts::thk_text_check;
-pub use texts::thk_utf8_step;
+pub use texts::thalluskin_draw_string;
+pub use texts::thalluskin_text_check;
+pub use texts::thalluskin_utf8_step;
+
+// The numbers of a drawing. `wrap` is for texts alone, and with every bit set it is none; unpacking looks at `start`,
+// `stride` and `mode`.
+#[repr(C)]
+pub struct PageNumbers {
+    pub start: usize,
+    pub stride: usize,
+    pub scale: usize,
+    pub wrap: u64,
+    pub colour: u32,
+    pub mode: u32,
+}
+
+// A glyph's bitmap, and how much of it: `width` by `height`.
+#[repr(C)]
+pub struct Bitmap {
+    pub glyph: GlyphIndex,
+    pub width: usize,
+    pub height: usize,
+}
 
 // The font's record, to be used with the same bytes.
 #[repr(C)]
@@ -74,6 +98,13 @@ pub struct MetricsAnswer {
     pub refusal: u32,
     pub place: usize,
     pub metrics: MetricsUnpacked,
+}
+
+#[repr(C)]
+pub struct AccelAnswer {
+    pub refusal: u32,
+    pub place: usize,
+    pub accel: AcceleratorUnpacked,
 }
 
 #[repr(C)]

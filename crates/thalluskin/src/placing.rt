@@ -1,23 +1,30 @@
 // The size of a font's letters, and a character placed.
 use crate::ExtentAnswer;
 use crate::InfoAnswer;
+use crate::modes::is_known;
 use place::Extent;
 use place::GlyphInfo;
 use place::Prepared;
 use place::Sized;
+use place::char_info;
 use place::dimensions;
-use place::prep_char;
 use reads::CharCode;
 use reads::GlyphIndex;
+use tables::Permit;
 use tables::Record;
+use tables::guard;
+use tables::record_fits;
 ghost use mathlib.Core.Path.{_≡_};
 ghost use Rattle.place.specs.Bounds as bounds;
-ghost use Rattle.place.specs.Info.{prepChar};
+ghost use Rattle.place.specs.Info.{preparedIn};
+ghost use Rattle.tables.specs.Fits.{guarded};
+ghost use Rattle.place.specs.declared.Prepared.{Prepared};
+ghost use Rattle.thalluskin.specs.Modes.{isKnown};
 ghost use Rattle.thalluskin.specs.Placing.{noInfo, extentAnswer, infoAnswer};
 
 // The bounds' height and width, as `place::dimensions` answers them. Refused, with place 0: 6, 11.
 #[no_mangle]
-pub extern "C" fn thk_dimensions(bytes: &[u8], rec: Record) -> ExtentAnswer
+pub extern "C" fn thalluskin_dimensions(bytes: &[u8], rec: Record) -> ExtentAnswer
     ensures { λ r. ⌜ r ≡ extentAnswer (bounds.dimensions (now (bytes .entry)) rec) ⌝ }
 {
     let answer = dimensions(bytes, rec);
@@ -51,13 +58,11 @@ pub(crate) fn no_info() -> GlyphInfo
     }
 }
 
-// A character's glyph, placed, as `place::prep_char` answers it. Refused, with place 0: 6, 9, 10, 11.
-#[no_mangle]
-pub extern "C" fn thk_prep_char(bytes: &[u8], rec: Record, code: CharCode) -> InfoAnswer
-    ensures { λ r. ⌜ r ≡ infoAnswer (prepChar (now (bytes .entry)) rec (code .0)) ⌝ }
+// What placing a character answered.
+fn info_answer(prepared: Prepared) -> InfoAnswer
+    ensures { λ r. ⌜ r ≡ infoAnswer prepared ⌝ }
 {
-    let answer = prep_char(bytes, rec, code);
-    match answer {
+    match prepared {
         Prepared::Info(info) => InfoAnswer {
             refusal: 0,
             place: 0,
@@ -68,5 +73,29 @@ pub extern "C" fn thk_prep_char(bytes: &[u8], rec: Record, code: CharCode) -> In
             place: r.place,
             info: no_info(),
         },
+    }
+}
+
+// A character's glyph, placed, as `place::prep_char` answers it. Refused, with place 0: 6, 15 for an unknown mode, 9, 10,
+// 11.
+#[no_mangle]
+pub extern "C" fn thalluskin_prep_char(
+    bytes: &[u8],
+    rec: Record,
+    code: CharCode,
+    mode: u32,
+) -> InfoAnswer
+    ensures { λ r. ⌜ r ≡ infoAnswer (guarded Prepared.Refused (now (bytes .entry)) rec (isKnown mode) (preparedIn (now (bytes .entry)) rec (code .0))) ⌝ }
+{
+    let permit = guard(record_fits(bytes.len(), rec), is_known(mode));
+    match permit {
+        Permit::Given => info_answer(char_info(
+            bytes,
+            rec.codes,
+            rec.metrics,
+            rec.accel.maxbounds,
+            code,
+        )),
+        Permit::Refused(r) => info_answer(Prepared::Refused(r)),
     }
 }

@@ -1,16 +1,20 @@
 // Loading, vetting, and what a font's tables say.
+use crate::AccelAnswer;
 use crate::FontAnswer;
 use crate::GlyphAnswer;
 use crate::MetricsAnswer;
 use crate::NameAnswer;
 use crate::PropertyAnswer;
+use crate::modes::is_known;
 use font::record_of;
 use load::Loaded;
 use load::blank;
 use load::no_metrics;
 use lookup::Found;
-use lookup::get_glyph;
+use lookup::glyph_of;
+use metrics::Accelerated;
 use metrics::Measured;
+use metrics::get_accelerators;
 use metrics::get_metrics;
 use names::Named;
 use names::Span;
@@ -21,15 +25,32 @@ use props::Property;
 use props::prop_at;
 use reads::CharCode;
 use reads::GlyphIndex;
+use reads::Refusal;
+use tables::Permit;
 use tables::Record;
+use tables::guard;
+use tables::record_fits;
 ghost use mathlib.Core.Path.{_≡_};
-ghost use mathlib.Core.Bool.{true, false};
+ghost use mathlib.Core.Bool.{true, false, cond};
 ghost use Rattle.font.specs.Shown.{recordOf};
-ghost use Rattle.lookup.specs.Lookup.{getGlyph};
-ghost use Rattle.metrics.specs.Measure.{getMetrics};
+ghost use Rattle.lookup.specs.Lookup.{glyphOf};
+ghost use Rattle.metrics.specs.Measure.{getMetrics, getAccelerators};
 ghost use Rattle.names.specs.Names.{getName};
 ghost use Rattle.props.specs.Props.{propAt};
-ghost use Rattle.thalluskin.specs.Reading.{fontAnswer, noSpan, propAnswer, propertyAnswer, glyphAnswer, nameAnswer, metricsAnswer};
+ghost use Rattle.reads.specs.Said.{refusal};
+ghost use Rattle.tables.specs.Fits.{guarded};
+ghost use Rattle.lookup.specs.declared.Found.{Found};
+ghost use Rattle.load.specs.declared.Loaded.{Loaded};
+ghost use Rattle.thalluskin.specs.Modes.{isKnown};
+ghost use Rattle.thalluskin.specs.Reading.{version, fontAnswer, noSpan, propAnswer, propertyAnswer, glyphAnswer, nameAnswer, metricsAnswer, accelAnswer};
+
+// The version of the archive: 10,000 times its first number, 100 times its second, and its third.
+#[no_mangle]
+pub extern "C" fn thalluskin_version() -> u32
+    ensures { λ r. ⌜ r ≡ version ⌝ }
+{
+    100
+}
 
 // What loading or vetting answered.
 fn font_answer(loaded: Loaded) -> FontAnswer
@@ -52,19 +73,26 @@ fn font_answer(loaded: Loaded) -> FontAnswer
 // The record of a font file, as `load::load_pcf` answers it. Refused with the first of: 1, 2, 3, 4; entry by entry,
 // with the entry's number from 0 as the place, 5, 6 (in a code table 6 for its header, 7, 6 for its entries); 8.
 #[no_mangle]
-pub extern "C" fn thk_load(bytes: &[u8]) -> FontAnswer
+pub extern "C" fn thalluskin_load(bytes: &[u8]) -> FontAnswer
     ensures { λ r. ⌜ r ≡ fontAnswer (recordOf (now (bytes .entry)) false) ⌝ }
 {
     font_answer(record_of(bytes, false))
 }
 
-// The record of a font file that passes vetting, as `vet::vet` answers it. Refused as `thk_load`; then 13; 11 of the
-// bounds; 18 with the property's number as the place; code by code, with the code as the place, 10, 11, 12, 14, 17, 18.
+// The record of a font file that passes vetting, as `vet::vet` answers it. Refused 15 for an unknown mode; as
+// `thalluskin_load`; then 13; 11 of the bounds; 18 with the property's number as the place; code by code, with the code
+// as the place, 10, 11, 12, 14, 17, 18.
 #[no_mangle]
-pub extern "C" fn thk_vet(bytes: &[u8]) -> FontAnswer
-    ensures { λ r. ⌜ r ≡ fontAnswer (recordOf (now (bytes .entry)) true) ⌝ }
+pub extern "C" fn thalluskin_vet(bytes: &[u8], mode: u32) -> FontAnswer
+    ensures { λ r. ⌜ r ≡ fontAnswer (cond (isKnown mode) (recordOf (now (bytes .entry)) true) (Loaded.Refused (refusal 15 0))) ⌝ }
 {
-    font_answer(record_of(bytes, true))
+    if is_known(mode) {
+        return font_answer(record_of(bytes, true));
+    }
+    font_answer(Loaded::Refused(Refusal {
+        number: 15,
+        place: 0,
+    }))
 }
 
 // No part of the bytes.
@@ -102,7 +130,7 @@ fn prop_answer(p: Property) -> PropertyAnswer
 
 // A property by its number from 0, as `props::prop_at` answers it. Refused, with place 0: 6, 17, 18.
 #[no_mangle]
-pub extern "C" fn thk_property(bytes: &[u8], rec: Record, number: u32) -> PropertyAnswer
+pub extern "C" fn thalluskin_property(bytes: &[u8], rec: Record, number: u32) -> PropertyAnswer
     ensures { λ r. ⌜ r ≡ propertyAnswer (propAt (now (bytes .entry)) rec number) ⌝ }
 {
     let answer = prop_at(bytes, rec, number);
@@ -119,13 +147,11 @@ pub extern "C" fn thk_property(bytes: &[u8], rec: Record, number: u32) -> Proper
     }
 }
 
-// The glyph of a code, as `lookup::get_glyph` answers it. Refused, with place 0: 6, 9.
-#[no_mangle]
-pub extern "C" fn thk_glyph(bytes: &[u8], rec: Record, code: CharCode) -> GlyphAnswer
-    ensures { λ r. ⌜ r ≡ glyphAnswer (getGlyph (now (bytes .entry)) rec (code .0)) ⌝ }
+// What looking a glyph up answered.
+fn glyph_answer(found: Found) -> GlyphAnswer
+    ensures { λ r. ⌜ r ≡ glyphAnswer found ⌝ }
 {
-    let answer = get_glyph(bytes, rec, code);
-    match answer {
+    match found {
         Found::Glyph(glyph) => GlyphAnswer {
             refusal: 0,
             place: 0,
@@ -139,9 +165,26 @@ pub extern "C" fn thk_glyph(bytes: &[u8], rec: Record, code: CharCode) -> GlyphA
     }
 }
 
+// The glyph of a code, as `lookup::get_glyph` answers it. Refused, with place 0: 6, 15 for an unknown mode, 9.
+#[no_mangle]
+pub extern "C" fn thalluskin_glyph(
+    bytes: &[u8],
+    rec: Record,
+    code: CharCode,
+    mode: u32,
+) -> GlyphAnswer
+    ensures { λ r. ⌜ r ≡ glyphAnswer (guarded Found.Refused (now (bytes .entry)) rec (isKnown mode) (glyphOf (now (bytes .entry)) (rec .codes) (code .0))) ⌝ }
+{
+    let permit = guard(record_fits(bytes.len(), rec), is_known(mode));
+    match permit {
+        Permit::Given => glyph_answer(glyph_of(bytes, rec.codes, code)),
+        Permit::Refused(r) => glyph_answer(Found::Refused(r)),
+    }
+}
+
 // Where a glyph's name stands in the bytes, as `names::get_name` answers it. Refused, with place 0: 6, 17, 18.
 #[no_mangle]
-pub extern "C" fn thk_name(bytes: &[u8], rec: Record, glyph: GlyphIndex) -> NameAnswer
+pub extern "C" fn thalluskin_name(bytes: &[u8], rec: Record, glyph: GlyphIndex) -> NameAnswer
     ensures { λ r. ⌜ r ≡ nameAnswer (getName (now (bytes .entry)) rec (glyph .0)) ⌝ }
 {
     let answer = get_name(bytes, rec, glyph);
@@ -161,7 +204,7 @@ pub extern "C" fn thk_name(bytes: &[u8], rec: Record, glyph: GlyphIndex) -> Name
 
 // A glyph's metrics, as `metrics::get_metrics` answers them. Refused, with place 0: 6, 10.
 #[no_mangle]
-pub extern "C" fn thk_metrics(bytes: &[u8], rec: Record, glyph: GlyphIndex) -> MetricsAnswer
+pub extern "C" fn thalluskin_metrics(bytes: &[u8], rec: Record, glyph: GlyphIndex) -> MetricsAnswer
     ensures { λ r. ⌜ r ≡ metricsAnswer (getMetrics (now (bytes .entry)) rec (glyph .0)) ⌝ }
 {
     let answer = get_metrics(bytes, rec, glyph);
@@ -176,5 +219,29 @@ pub extern "C" fn thk_metrics(bytes: &[u8], rec: Record, glyph: GlyphIndex) -> M
             place: r.place,
             metrics: no_metrics(),
         },
+    }
+}
+
+// The accelerators, as `metrics::get_accelerators` answers them. Refused, with place 0: 6.
+#[no_mangle]
+pub extern "C" fn thalluskin_accel(bytes: &[u8], rec: Record) -> AccelAnswer
+    ensures { λ r. ⌜ r ≡ accelAnswer (getAccelerators (now (bytes .entry)) rec) ⌝ }
+{
+    let answer = get_accelerators(bytes, rec);
+    match answer {
+        Accelerated::Accelerators(accel) => AccelAnswer {
+            refusal: 0,
+            place: 0,
+            accel,
+        },
+        Accelerated::Refused(r) => {
+            let none = blank();
+            let accel = none.accel;
+            AccelAnswer {
+                refusal: r.number as u32,
+                place: r.place,
+                accel,
+            }
+        }
     }
 }

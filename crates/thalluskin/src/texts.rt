@@ -1,6 +1,8 @@
 // Texts: drawn, tried, and stepped through.
+use crate::PageNumbers;
 use crate::StepAnswer;
 use crate::TextAnswer;
+use crate::modes::stride_of;
 use reads::CharCode;
 use tables::Record;
 use text::TextDrawn;
@@ -14,7 +16,7 @@ ghost use mathlib.Core.Path.{_≡_};
 ghost use lib.ListN.{length};
 ghost use Rattle.text.specs.Text.{drawString, stringLeaves};
 ghost use Rattle.utf8.specs.Step.{stepAt};
-ghost use Rattle.thalluskin.specs.Texts.{layout, textAnswer, stepAnswer};
+ghost use Rattle.thalluskin.specs.Texts.{layoutOf, textAnswer, stepAnswer};
 
 // What drawing a text answered.
 fn text_answer(drawn: TextDrawn) -> TextAnswer
@@ -37,60 +39,60 @@ fn text_answer(drawn: TextDrawn) -> TextAnswer
     }
 }
 
-// Draws a text, as `text::draw_string` does; `wrap` with every bit set is none. Refused, with no pixel coloured: 6, 15,
-// 19, 11 of the bounds; then the first character with one decides, and the byte where it starts is the place: 10, 11,
-// 13, 14, 16.
+// Draws a text, as `text::draw_string` does; `wrap` with every bit set is none. Refused, with no pixel coloured: 6, 15, an
+// unknown mode too, 19, 11 of the bounds; then the first character with one decides, and the byte where it starts is the
+// place: 10, 11, 13, 14, 16.
 #[no_mangle]
-pub extern "C" fn thk_draw_string(
+pub extern "C" fn thalluskin_draw_string(
     bytes: &[u8],
     rec: Record,
     text: &[u8],
     buf: &mut [u32],
-    start: usize,
-    wrap: u64,
-    stride: usize,
-    scale: usize,
-    colour: u32,
+    page: PageNumbers,
 ) -> TextAnswer
-    ensures { λ r. ⌜ r ≡ textAnswer (drawString (now (bytes .entry)) rec (now (text .entry)) (length (now (buf .entry))) (layout start wrap stride scale)) ⌝ }
-    ensures { λ r. ⌜ now (buf .exit) ≡ stringLeaves (now (bytes .entry)) rec (now (text .entry)) (layout start wrap stride scale) colour (drawString (now (bytes .entry)) rec (now (text .entry)) (length (now (buf .entry))) (layout start wrap stride scale)) (now (buf .entry)) ⌝ }
+    ensures { λ r. ⌜ r ≡ textAnswer (drawString (now (bytes .entry)) rec (now (text .entry)) (length (now (buf .entry))) (layoutOf page)) ⌝ }
+    ensures { λ r. ⌜ now (buf .exit) ≡ stringLeaves (now (bytes .entry)) rec (now (text .entry)) (layoutOf page) (page .colour) (drawString (now (bytes .entry)) rec (now (text .entry)) (length (now (buf .entry))) (layoutOf page)) (now (buf .entry)) ⌝ }
 {
-    let at = wrap_of(wrap);
     text_answer(draw_string(
         bytes,
         rec,
         text,
         &mut *buf,
-        start,
-        at,
-        stride,
-        scale,
-        colour,
+        page.start,
+        wrap_of(page.wrap),
+        stride_of(page),
+        page.scale,
+        page.colour,
     ))
 }
 
-// What `thk_draw_string` answers with a buffer of `len` pixels: a dry run.
+// What `thalluskin_draw_string` answers with a buffer of `len` pixels: a dry run.
 #[no_mangle]
-pub extern "C" fn thk_text_check(
+pub extern "C" fn thalluskin_text_check(
     bytes: &[u8],
     rec: Record,
     text: &[u8],
     len: usize,
-    start: usize,
-    wrap: u64,
-    stride: usize,
-    scale: usize,
+    page: PageNumbers,
 ) -> TextAnswer
-    ensures { λ r. ⌜ r ≡ textAnswer (drawString (now (bytes .entry)) rec (now (text .entry)) len (layout start wrap stride scale)) ⌝ }
+    ensures { λ r. ⌜ r ≡ textAnswer (drawString (now (bytes .entry)) rec (now (text .entry)) len (layoutOf page)) ⌝ }
 {
-    let at = wrap_of(wrap);
-    text_answer(text_check(bytes, rec, text, len, start, at, stride, scale))
+    text_answer(text_check(
+        bytes,
+        rec,
+        text,
+        len,
+        page.start,
+        wrap_of(page.wrap),
+        stride_of(page),
+        page.scale,
+    ))
 }
 
 // The character at byte `i` and the place after it, or the end, as `utf8::step_at` answers it. Refused: 19, with `i` as
 // the place.
 #[no_mangle]
-pub extern "C" fn thk_utf8_step(text: &[u8], i: usize) -> StepAnswer
+pub extern "C" fn thalluskin_utf8_step(text: &[u8], i: usize) -> StepAnswer
     ensures { λ r. ⌜ r ≡ stepAnswer (stepAt (now (text .entry)) i) ⌝ }
 {
     let answer = step_at(text, i);

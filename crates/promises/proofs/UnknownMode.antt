@@ -1,0 +1,70 @@
+-- An exported function that takes a page draws in mode 0 with the page's own line length; in an unknown mode it is refused, 6 for a record
+-- that does not fit the bytes, else 15.
+use mathlib.Core.Path.{_≡_, refl}
+use mathlib.Core.Bool.{true, false}
+use mathlib.Core.List.{List}
+use Prim.Native.Nat.{ℕ}
+use lib.Dec.{leb}
+use lib.ListN.{length}
+use Rattle.reads.proofs.Tests.{split}
+use Rattle.tables.specs.Fits.{recordFits, ladder}
+use Rattle.tables.specs.declared.Record.{Record}
+use Rattle.bitmaps.specs.Place.{placeAt}
+use Rattle.bitmaps.specs.Limits.{okPlace}
+use Rattle.bitmaps.specs.Draw.{bitmapReady, drawBitmap}
+use Rattle.bitmaps.specs.declared.Drawn.{Drawn}
+use Rattle.bitmaps.specs.declared.Unpacked.{Unpacked}
+use Rattle.place.specs.declared.GlyphInfo.{GlyphInfo}
+use Rattle.glyphs.specs.Glyph.{glyphReady, drawGlyph}
+use Rattle.glyphs.specs.Char.{charReady, drawChar}
+use Rattle.glyphs.specs.Unpack.{unpackGlyph}
+use Rattle.glyphs.specs.declared.CharDrawn.{CharDrawn}
+use Rattle.text.specs.Text.{ready, drawString}
+use Rattle.text.specs.declared.TextDrawn.{TextDrawn}
+use Rattle.thalluskin.specs.Modes.{isKnown, strideOf}
+use Rattle.thalluskin.specs.Drawing.{placeOf}
+use Rattle.thalluskin.specs.Texts.{layoutOf}
+use Rattle.thalluskin.specs.declared.PageNumbers.{PageNumbers}
+use Rattle.promises.specs.Exported.{unknownMode}
+
+pub stride-in-known : (page : PageNumbers) → isKnown (page .mode) ≡ true → strideOf page ≡ page .stride
+unfolding strideOf
+stride-in-known page e = rw e refl
+
+stride-in-unknown : (page : PageNumbers) → isKnown (page .mode) ≡ false → strideOf page ≡ 0
+unfolding strideOf
+stride-in-unknown page e = rw e refl
+
+no-lines : (p scale : ℕ) → okPlace (placeAt p 0 scale) ≡ false
+no-lines p scale = split (leb p 2147483647) (λ t. rw t refl) (λ t. rw t refl)
+
+module _ (s : List ℕ) (rec : Record) (page : PageNumbers) (unknown : isKnown (page .mode) ≡ false) where
+  pub draw-bitmap-unknown : (g width height len : ℕ) → drawBitmap s rec g width height len (placeOf page) ≡ Drawn.Refused (unknownMode s rec)
+  unfolding drawBitmap bitmapReady
+  draw-bitmap-unknown g width height len =
+      rw (stride-in-unknown page unknown, no-lines (page .start) (page .scale))
+      (split (recordFits (length s) rec) (λ t. rw t refl) (λ t. rw t refl))
+
+  pub draw-glyph-unknown : (info : GlyphInfo) (len : ℕ) → drawGlyph s rec info len (placeOf page) ≡ Drawn.Refused (unknownMode s rec)
+  unfolding drawGlyph glyphReady ladder
+  draw-glyph-unknown info len =
+      rw (stride-in-unknown page unknown, no-lines (page .start) (page .scale))
+      (split (recordFits (length s) rec) (λ t. rw t refl) (λ t. rw t refl))
+
+  pub draw-char-unknown : (code len : ℕ) → drawChar s rec code len (placeOf page) ≡ CharDrawn.Refused (unknownMode s rec)
+  unfolding drawChar charReady
+  draw-char-unknown code len =
+      rw (stride-in-unknown page unknown, no-lines (page .start) (page .scale))
+      (split (recordFits (length s) rec) (λ t. rw t refl) (λ t. rw t refl))
+
+  pub unpack-glyph-unknown : (info : GlyphInfo) (len : ℕ) → unpackGlyph s rec info len (page .start) (strideOf page) ≡ Unpacked.Refused (unknownMode s rec)
+  unfolding unpackGlyph glyphReady ladder
+  unpack-glyph-unknown info len =
+      rw (stride-in-unknown page unknown, no-lines (page .start) 1)
+      (split (recordFits (length s) rec) (λ t. rw t refl) (λ t. rw t refl))
+
+  pub draw-string-unknown : (text : List ℕ) (len : ℕ) → drawString s rec text len (layoutOf page) ≡ TextDrawn.Refused (unknownMode s rec)
+  unfolding drawString ready
+  draw-string-unknown text len =
+      rw (stride-in-unknown page unknown, no-lines (page .start) (page .scale))
+      (split (recordFits (length s) rec) (λ t. rw t refl) (λ t. rw t refl))
