@@ -5,6 +5,7 @@
  *
  * Exit status: 0 for a picture, 1 for a font or a text that is refused, 2 for anything else. */
 #include <errno.h>
+#include <inttypes.h>
 #include <stdio.h>
 #include <stdlib.h>
 #include <string.h>
@@ -13,39 +14,16 @@
 
 enum { REFUSED = 1, TROUBLE = 2 };
 
-static const char *const reasons[] = {
-    [THK_DONE] = "no refusal",
-    [THK_FILE_SHORT] = "file under 8 bytes",
-    [THK_NOT_PCF] = "first four bytes not 01 66 63 70",
-    [THK_MANY_ENTRIES] = "over 64 directory entries",
-    [THK_BAD_DIRECTORY] = "directory runs past the file",
-    [THK_BAD_OFFSET] = "an entry's offset exceeds the file length",
-    [THK_BAD_TABLE] = "a table's contents run past its bytes",
-    [THK_CODE_BOUNDS] = "code table with a minimum above its maximum",
-    [THK_NO_TABLE] = "a table is missing",
-    [THK_NO_GLYPH] = "no glyph for this code",
-    [THK_NO_METRICS] = "glyph at or above the metrics count",
-    [THK_BAD_METRICS] = "metrics out of range",
-    [THK_NO_BITMAP] = "glyph at or above the bitmap count",
-    [THK_BIT_ORDER] = "scan unit code 3, or a scan unit wider than the row pad",
-    [THK_BITMAP_SHORT] = "a needed bitmap byte lies beyond the bitmap data",
-    [THK_BAD_ARGUMENT] = "an argument other than the text outside its limits",
-    [THK_BUFFER_SHORT] = "a pixel to colour lies beyond the buffer",
-    [THK_NO_NAME] = "glyph at or above the names count, or property number too high",
-    [THK_BAD_STRING] = "string offset beyond the string data, or no zero byte at or after it",
-    [THK_BAD_TEXT] = "text too long or not UTF-8",
-};
-
 static void fail(const char *what, const char *name)
 {
     fprintf(stderr, "draw: %s: %s\n", name, what);
     exit(TROUBLE);
 }
 
-static void refuse(const char *what, uint32_t number, size_t place)
+static void refuse(const char *what, uint32_t number, uint64_t place)
 {
-    const char *reason = number < sizeof reasons / sizeof *reasons ? reasons[number] : "an unknown reason";
-    fprintf(stderr, "draw: the %s is refused, %u at %zu: %s\n", what, (unsigned)number, place, reason);
+    fprintf(stderr, "draw: the %s is refused, %" PRIu32 " at %" PRIu64 ": %s\n", what, number, place,
+            thk_refusal_words(number));
     exit(REFUSED);
 }
 
@@ -114,25 +92,28 @@ int main(int argc, char **argv)
         fprintf(stderr, "usage: draw FONT.pcf TEXT WIDTH HEIGHT SCALE PICTURE.pbm\n");
         return TROUBLE;
     }
-    size_t width = number(argv[3], "WIDTH", 1, 65535), height = number(argv[4], "HEIGHT", 1, 65535);
-    size_t scale = number(argv[5], "SCALE", 1, 64), pixels = width * height, len;
+    size_t width = number(argv[3], "WIDTH", 1, THK_MAX_STRIDE), height = number(argv[4], "HEIGHT", 1, 65535);
+    size_t scale = number(argv[5], "SCALE", 1, THK_MAX_SCALE), pixels = width * height, len;
     uint8_t *bytes = file_bytes(argv[1], &len);
-    uint32_t *page = calloc(pixels, sizeof *page);
+    uint32_t *panel = calloc(pixels, sizeof *panel);
 
-    if (!page)
+    if (!panel)
         fail("too large for this machine's memory", "the page");
-    thk_font_answer font = thk_vet(bytes, len);
+    thk_font_answer font = thk_vet(bytes, len, THK_PLAIN);
     if (font.refusal)
         refuse("font", font.refusal, font.place);
-    const uint8_t *text = (const uint8_t *)argv[2];
+    thk_page page = thk_page_of(panel, pixels, width);
+    page.scale = scale;
+    page.wrap = width + 1;
     thk_text_answer drawn =
-        thk_draw_string(bytes, len, font.rec, text, strlen(argv[2]), page, pixels, 0, width + 1, width, scale, 1);
+        thk_draw_string(bytes, len, &font.rec, (const uint8_t *)argv[2], strlen(argv[2]), &page);
     if (drawn.refusal)
         refuse("text", drawn.refusal, drawn.place);
-    write_picture(argv[6], page, width, height);
-    free(page);
+    write_picture(argv[6], panel, width, height);
+    free(panel);
     free(bytes);
-    if (printf("height %zu, dropped rows %zu\n", drawn.rows.height, drawn.rows.dropped) < 0 || fflush(stdout) != 0)
+    if (printf("height %" PRIu64 ", dropped rows %" PRIu64 "\n", drawn.rows.height, drawn.rows.dropped) < 0 ||
+        fflush(stdout) != 0)
         fail("cannot be written", "standard output");
     return 0;
 }

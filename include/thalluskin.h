@@ -1,28 +1,40 @@
 /*
  * Thalluskin: reads PCF bitmap fonts and draws text into a buffer of pixels.
  *
- * Link with libthalluskin.a, which is for x86-64 and which `rt staticlib thalluskin` makes in target/staticlib:
- *
  *     cc program.c -I include target/staticlib/libthalluskin.a
  *
- * The archive needs nothing but memcpy and memset. It holds no state, allocates nothing and keeps no pointer, so that
- * any number of threads may call it.
+ * `rt staticlib thalluskin` makes the archive, for x86-64 Linux. It needs nothing but memcpy and memset. It holds no
+ * state, allocates nothing and keeps no pointer, so that any number of threads may call it. One header serves every
+ * processor that has its bytes in little-endian order and puts a uint64_t at a multiple of 8, those of 32 bits too.
  *
  * A font is the bytes of its file, which stay the caller's, and the record that thk_load or thk_vet gives for them;
  * each call takes both. Every call has an answer for every font, record, text and number, a record that was made up
  * among them. What the caller has to see to, because no callee can:
  *
  *   - a pointer and its length are that many bytes or pixels that may be read, and for a buffer also written; where
- *     the length is 0 nothing is read there, and the pointer may be NULL;
+ *     the length is 0 nothing is read there, and the pointer may be NULL; a pointer to a record or a page is no NULL;
  *   - a buffer of pixels stands at an address that is a multiple of 4;
  *   - a buffer overlaps neither the font's bytes nor the text, and nobody else writes to any of them during the call;
- *   - a bool in a record is 0 or 1, as C makes it.
+ *   - a bool in a record is 0 or 1, as C makes it;
+ *   - the stack has room. On x86-64 a call takes at most, in bytes, its return address included and memcpy and memset
+ *     not:
+ *
+ *         thk_vet 3,700; thk_load 3,300
+ *         thk_draw_string 1,300; thk_text_check 1,300
+ *         thk_draw_char 900; thk_draw_bitmap 900; thk_draw_glyph 800; thk_unpack_glyph 400
+ *         thk_prep_char 700; thk_metrics 300; thk_property 200; each of the others 100
+ *
+ *     and its caller some 500 for the answer and for copies of the record and of a page's numbers.
+ *
+ * The archive has no tables to unwind its frames by: it throws nothing and calls nothing of its caller's, so that no
+ * exception passes through it. A debugger that stops inside it may not see who called.
  *
  * Every answer begins with `refusal`, which is 0 or the number of the reason why there is no result, and `place`,
  * which says where: for THK_BAD_OFFSET, THK_BAD_TABLE and THK_CODE_BOUNDS in loading the directory entry from 0; in
  * vetting the property or the code; in a text the byte where the refusing character starts; for THK_BAD_TEXT the first
  * byte at which no character starts, or 0 where the text is too long; otherwise 0. Where `refusal` is not 0 every
- * other value of the answer is 0 and buffers are as they were; where it is 0, so is `place`.
+ * other value of the answer is 0 and buffers are as they were; where it is 0, so is `place`. thk_refusal_words says a
+ * number in words. Places and lengths have 64 bits on every processor, so that printf takes them by PRIu64.
  *
  * The refusals are listed with each function in the order in which they are tested.
  */
@@ -36,6 +48,10 @@
 #ifdef __cplusplus
 extern "C" {
 #endif
+
+/* The version of this header, 0.1.0: 10,000 times the first number, 100 times the second, and the third. It changes
+ * where a struct or a function does; thk_version answers that of the archive, which has to be the same. */
+#define THK_VERSION 100
 
 enum {
     THK_DONE = 0,          /* not refused */
@@ -63,8 +79,18 @@ enum {
                            /* 20 is of the dump program alone */
 };
 
+/* The limits of what calls take; 15 refuses a number past them, and 19 a longer text. */
+#define THK_MAX_STRIDE 65535 /* and at least 1 */
+#define THK_MAX_SCALE 64 /* and at least 1 */
+#define THK_MAX_START 2147483647
+#define THK_MAX_BOX 32767 /* a given width, height or pad */
+#define THK_MAX_TEXT 65535 /* bytes */
+
 /* For `wrap`: lines end at newlines alone. */
 #define THK_NO_WRAP UINT64_MAX
+
+/* For `mode`: as the rule book has it. Other modes are to come; until then every other number is refused (15). */
+#define THK_PLAIN 0
 
 /* A character's code and a glyph's number in its font: two types, so that neither is taken for the other. */
 typedef struct {
@@ -82,9 +108,9 @@ typedef struct {
 typedef struct {
     bool big;
     uint32_t count;
-    size_t records;
-    size_t strings;
-    size_t size;
+    uint64_t records;
+    uint64_t strings;
+    uint64_t size;
 } thk_props_data;
 
 /* A glyph's metrics, or the bounds of all glyphs, in pixels. */
@@ -100,17 +126,17 @@ typedef struct {
 /* The accelerator table as its file has it. Of this drawing looks at `maxbounds` alone. */
 typedef struct {
     uint32_t format;
-    uint8_t noOverlap;
-    uint8_t constantMetrics;
-    uint8_t terminalFont;
-    uint8_t constantWidth;
-    uint8_t inkInside;
-    uint8_t inkMetrics;
-    uint8_t drawDirection;
+    uint8_t no_overlap;
+    uint8_t constant_metrics;
+    uint8_t terminal_font;
+    uint8_t constant_width;
+    uint8_t ink_inside;
+    uint8_t ink_metrics;
+    uint8_t draw_direction;
     uint8_t padding;
-    int32_t fontAscent;
-    int32_t fontDescent;
-    int32_t maxOverlap;
+    int32_t font_ascent;
+    int32_t font_descent;
+    int32_t max_overlap;
     thk_measures minbounds;
     thk_measures maxbounds;
 } thk_accelerators;
@@ -120,7 +146,7 @@ typedef struct {
     bool big;
     bool compressed;
     uint32_t count;
-    size_t records;
+    uint64_t records;
 } thk_metrics_data;
 
 /* `count` offsets from `offsets` on, into bitmap data of `size` bytes from `bits` on. A row is padded to a multiple of
@@ -129,9 +155,9 @@ typedef struct {
 typedef struct {
     bool big;
     uint32_t count;
-    size_t offsets;
-    size_t bits;
-    size_t size;
+    uint64_t offsets;
+    uint64_t bits;
+    uint64_t size;
     uint8_t pad;
     uint8_t unit;
     bool top;
@@ -145,17 +171,17 @@ typedef struct {
     uint16_t low1;
     uint16_t high1;
     uint16_t default_code;
-    size_t entries;
-    size_t size;
+    uint64_t entries;
+    uint64_t size;
 } thk_code_data;
 
 /* `count` offsets from `offsets` on, into string data of `size` bytes from `strings` on. */
 typedef struct {
     bool big;
     uint32_t count;
-    size_t offsets;
-    size_t strings;
-    size_t size;
+    uint64_t offsets;
+    uint64_t strings;
+    uint64_t size;
 } thk_name_data;
 
 typedef struct {
@@ -167,18 +193,59 @@ typedef struct {
     thk_name_data names;
 } thk_record;
 
+/* ---- What calls take. */
+
+/* A page to draw on, and how: `len` pixels in lines of `stride`; where drawing begins; how large a bit is drawn; where
+ * lines of a text wrap; the colour; the mode. thk_page_of gives one that is set but for what a program changes. */
+typedef struct {
+    uint32_t *pixels;
+    uint64_t len;
+    uint64_t start;
+    uint64_t stride;
+    uint64_t scale;
+    uint64_t wrap;
+    uint32_t colour;
+    uint32_t mode;
+} thk_page;
+
+/* A buffer of `len` bytes to unpack into, one for each bit, in lines of `stride`. thk_cells_of gives one. */
+typedef struct {
+    uint8_t *bytes;
+    uint64_t len;
+    uint64_t start;
+    uint64_t stride;
+    uint32_t mode;
+} thk_cells;
+
+/* A glyph's bitmap, and how much of it: `width` by `height`. */
+typedef struct {
+    thk_glyph_index glyph;
+    uint64_t width;
+    uint64_t height;
+} thk_bitmap;
+
+/* A page's numbers, as they go into the archive. Programs have no need of it. */
+typedef struct {
+    uint64_t start;
+    uint64_t stride;
+    uint64_t scale;
+    uint64_t wrap;
+    uint32_t colour;
+    uint32_t mode;
+} thk_page_numbers;
+
 /* ---- What answers hold. */
 
 /* A part of the font's bytes: `len` of them from `start` on. */
 typedef struct {
-    size_t start;
-    size_t len;
+    uint64_t start;
+    uint64_t len;
 } thk_span;
 
 /* The height and width of the font's maximum bounds, in pixels. */
 typedef struct {
-    size_t height;
-    size_t width;
+    uint64_t height;
+    uint64_t width;
 } thk_extent;
 
 /* A placed glyph: its bitmap is `width` wide and `height` high, and stands `pad_top` below the line's top and
@@ -199,15 +266,15 @@ typedef struct {
 
 /* The height that a text takes, in pixels, and how many rows of all its glyphs were dropped. */
 typedef struct {
-    size_t height;
-    size_t dropped;
+    uint64_t height;
+    uint64_t dropped;
 } thk_text_rows;
 
 /* ---- Answers. */
 
 typedef struct {
     uint32_t refusal;
-    size_t place;
+    uint64_t place;
     thk_record rec;
 } thk_font_answer;
 
@@ -215,7 +282,7 @@ typedef struct {
  * 0; else `number`, and `string` is 0 and 0. */
 typedef struct {
     uint32_t refusal;
-    size_t place;
+    uint64_t place;
     thk_span name;
     bool is_string;
     uint32_t number;
@@ -224,56 +291,62 @@ typedef struct {
 
 typedef struct {
     uint32_t refusal;
-    size_t place;
+    uint64_t place;
     thk_glyph_index glyph;
 } thk_glyph_answer;
 
 typedef struct {
     uint32_t refusal;
-    size_t place;
+    uint64_t place;
     thk_span name;
 } thk_name_answer;
 
 typedef struct {
     uint32_t refusal;
-    size_t place;
+    uint64_t place;
     thk_measures metrics;
 } thk_metrics_answer;
 
 typedef struct {
     uint32_t refusal;
-    size_t place;
+    uint64_t place;
+    thk_accelerators accel;
+} thk_accel_answer;
+
+typedef struct {
+    uint32_t refusal;
+    uint64_t place;
     thk_extent extent;
 } thk_extent_answer;
 
 typedef struct {
     uint32_t refusal;
-    size_t place;
+    uint64_t place;
     thk_glyph_info info;
 } thk_info_answer;
 
 typedef struct {
     uint32_t refusal;
-    size_t place;
+    uint64_t place;
     thk_rows rows;
 } thk_rows_answer;
 
 typedef struct {
     uint32_t refusal;
-    size_t place;
+    uint64_t place;
     thk_glyph_info info;
     thk_rows rows;
 } thk_char_answer;
 
 typedef struct {
     uint32_t refusal;
-    size_t place;
+    uint64_t place;
     uint16_t rows;
 } thk_unpack_answer;
 
 typedef struct {
     uint32_t refusal;
-    size_t place;
+    uint64_t place;
     thk_text_rows rows;
 } thk_text_answer;
 
@@ -281,84 +354,294 @@ typedef struct {
  * end all three are 0. */
 typedef struct {
     uint32_t refusal;
-    size_t place;
+    uint64_t place;
     bool found;
     thk_char_code code;
-    size_t next;
+    uint64_t next;
 } thk_step_answer;
+
+/* ---- The archive's own functions, which the ones below call. On x86-64 a struct goes by value. Elsewhere, and where
+ * THK_LENT is defined, the answer goes where the first argument points, and a struct is lent by a pointer: how a struct
+ * goes by value is each processor's own affair. Programs have no need of them. */
+#if defined(__BYTE_ORDER__) && __BYTE_ORDER__ != __ORDER_LITTLE_ENDIAN__
+#error "thalluskin is for processors with little-endian byte order"
+#endif
+
+#if defined(__x86_64__) && !defined(__ILP32__) && !defined(_WIN32) && !defined(THK_LENT)
+#define THK_DECLARE(answer, name, ...) answer thalluskin_##name(__VA_ARGS__)
+#define THK_ANSWER(answer, name, ...) return thalluskin_##name(__VA_ARGS__)
+#define THK_STRUCT(type) type
+#define THK_GIVE(pointer) *(pointer)
+#else
+#define THK_DECLARE(answer, name, ...) void thalluskin_lent_##name(answer *to, __VA_ARGS__)
+#define THK_ANSWER(answer, name, ...)              \
+    answer given;                                  \
+    thalluskin_lent_##name(&given, __VA_ARGS__);   \
+    return given
+#define THK_STRUCT(type) const type *
+#define THK_GIVE(pointer) (pointer)
+#endif
+
+uint32_t thalluskin_version(void);
+THK_DECLARE(thk_font_answer, load, const uint8_t *bytes, uint64_t bytes_len);
+THK_DECLARE(thk_font_answer, vet, const uint8_t *bytes, uint64_t bytes_len, uint32_t mode);
+THK_DECLARE(thk_property_answer, property, const uint8_t *bytes, uint64_t bytes_len, THK_STRUCT(thk_record) rec,
+            uint32_t number);
+THK_DECLARE(thk_glyph_answer, glyph, const uint8_t *bytes, uint64_t bytes_len, THK_STRUCT(thk_record) rec,
+            THK_STRUCT(thk_char_code) code, uint32_t mode);
+THK_DECLARE(thk_name_answer, name, const uint8_t *bytes, uint64_t bytes_len, THK_STRUCT(thk_record) rec,
+            THK_STRUCT(thk_glyph_index) glyph);
+THK_DECLARE(thk_metrics_answer, metrics, const uint8_t *bytes, uint64_t bytes_len, THK_STRUCT(thk_record) rec,
+            THK_STRUCT(thk_glyph_index) glyph);
+THK_DECLARE(thk_accel_answer, accel, const uint8_t *bytes, uint64_t bytes_len, THK_STRUCT(thk_record) rec);
+THK_DECLARE(thk_extent_answer, dimensions, const uint8_t *bytes, uint64_t bytes_len, THK_STRUCT(thk_record) rec);
+THK_DECLARE(thk_info_answer, prep_char, const uint8_t *bytes, uint64_t bytes_len, THK_STRUCT(thk_record) rec,
+            THK_STRUCT(thk_char_code) code, uint32_t mode);
+THK_DECLARE(thk_rows_answer, draw_bitmap, const uint8_t *bytes, uint64_t bytes_len, THK_STRUCT(thk_record) rec,
+            THK_STRUCT(thk_bitmap) bitmap, uint32_t *buf, uint64_t buf_len, THK_STRUCT(thk_page_numbers) page);
+THK_DECLARE(thk_rows_answer, draw_glyph, const uint8_t *bytes, uint64_t bytes_len, THK_STRUCT(thk_record) rec,
+            THK_STRUCT(thk_glyph_info) info, uint32_t *buf, uint64_t buf_len, THK_STRUCT(thk_page_numbers) page);
+THK_DECLARE(thk_char_answer, draw_char, const uint8_t *bytes, uint64_t bytes_len, THK_STRUCT(thk_record) rec,
+            THK_STRUCT(thk_char_code) code, uint32_t *buf, uint64_t buf_len, THK_STRUCT(thk_page_numbers) page);
+THK_DECLARE(thk_unpack_answer, unpack_glyph, const uint8_t *bytes, uint64_t bytes_len, THK_STRUCT(thk_record) rec,
+            THK_STRUCT(thk_glyph_info) info, uint8_t *buf, uint64_t buf_len, THK_STRUCT(thk_page_numbers) page);
+THK_DECLARE(thk_text_answer, draw_string, const uint8_t *bytes, uint64_t bytes_len, THK_STRUCT(thk_record) rec,
+            const uint8_t *text, uint64_t text_len, uint32_t *buf, uint64_t buf_len,
+            THK_STRUCT(thk_page_numbers) page);
+THK_DECLARE(thk_text_answer, text_check, const uint8_t *bytes, uint64_t bytes_len, THK_STRUCT(thk_record) rec,
+            const uint8_t *text, uint64_t text_len, uint64_t len, THK_STRUCT(thk_page_numbers) page);
+THK_DECLARE(thk_step_answer, utf8_step, const uint8_t *text, uint64_t text_len, uint64_t i);
 
 /* ---- A font. */
 
+/* The version of the archive, which has to be THK_VERSION. */
+static inline uint32_t thk_version(void)
+{
+    return thalluskin_version();
+}
+
+/* What a refusal's number means, in English. */
+static inline const char *thk_refusal_words(uint32_t number)
+{
+    switch (number) {
+    case THK_DONE:
+        return "not refused";
+    case THK_FILE_SHORT:
+        return "the file has under 8 bytes";
+    case THK_NOT_PCF:
+        return "not a PCF font: the first four bytes are not 01 66 63 70";
+    case THK_MANY_ENTRIES:
+        return "over 64 directory entries";
+    case THK_BAD_DIRECTORY:
+        return "the directory runs past the file's end";
+    case THK_BAD_OFFSET:
+        return "a table starts past the file's end";
+    case THK_BAD_TABLE:
+        return "a table's contents run past its bytes, or the record does not fit the font's bytes";
+    case THK_CODE_BOUNDS:
+        return "the code table has a minimum above its maximum";
+    case THK_NO_TABLE:
+        return "a table is missing; properties, accelerators, metrics, bitmaps, codes and names must be there";
+    case THK_NO_GLYPH:
+        return "the font has no glyph for this code";
+    case THK_NO_METRICS:
+        return "the glyph has no metrics";
+    case THK_BAD_METRICS:
+        return "metrics out of range, of a glyph or of the font's bounds; often a left bearing or an ascent below 0";
+    case THK_NO_BITMAP:
+        return "the glyph has no bitmap";
+    case THK_BIT_ORDER:
+        return "bitmaps with scan unit code 3, or with scan units wider than the row pad";
+    case THK_BITMAP_SHORT:
+        return "a glyph's rows run past the bitmap data";
+    case THK_BAD_ARGUMENT:
+        return "a number outside its limits";
+    case THK_BUFFER_SHORT:
+        return "a pixel to colour lies beyond the buffer";
+    case THK_NO_NAME:
+        return "the glyph has no name, or there is no property with this number";
+    case THK_BAD_STRING:
+        return "a string does not end within its data: a property's, or a glyph's name";
+    case THK_BAD_TEXT:
+        return "the text has over 65,535 bytes or is not UTF-8";
+    default:
+        return "an unknown reason";
+    }
+}
+
 /* The record of a font file. Refused 1, 2, 3, 4; entry by entry 5, 6 (in a code table 6 for its header, 7, 6 for its
  * entries); 8. */
-thk_font_answer thk_load(const uint8_t *bytes, size_t bytes_len);
+static inline thk_font_answer thk_load(const uint8_t *font, uint64_t font_len)
+{
+    THK_ANSWER(thk_font_answer, load, font, font_len);
+}
 
 /* The same, of a font of which no code's glyph is ever refused for the font's sake: in such a font a text is refused
- * only for itself (19), for another argument (15), or because a pixel to colour lies beyond the buffer (16). Refused
- * as thk_load; 13; 11 of the bounds; 18 of a property; code by code 10, 11, 12, 14, 17, 18. */
-thk_font_answer thk_vet(const uint8_t *bytes, size_t bytes_len);
+ * only for itself (19), for another argument (15), or because a pixel to colour lies beyond the buffer (16).
+ *
+ * Two causes can share a number and a place. 11 at 0 is of the bounds if thk_dimensions, with the record that thk_load
+ * gives, is refused 11; else of the glyph of code 0. 18 at n is of property n if thk_property is refused 18 for it;
+ * else of the name of code n's glyph.
+ *
+ * Refused 15 for an unknown mode; as thk_load; 13; 11 of the bounds; 18 of a property; code by code 10, 11, 12, 14, 17,
+ * 18. */
+static inline thk_font_answer thk_vet(const uint8_t *font, uint64_t font_len, uint32_t mode)
+{
+    THK_ANSWER(thk_font_answer, vet, font, font_len, mode);
+}
 
 /* The property with this number, from 0. Refused 6, 17, 18. */
-thk_property_answer thk_property(const uint8_t *bytes, size_t bytes_len, thk_record rec, uint32_t number);
+static inline thk_property_answer thk_property(const uint8_t *font, uint64_t font_len, const thk_record *rec,
+                                               uint32_t number)
+{
+    THK_ANSWER(thk_property_answer, property, font, font_len, THK_GIVE(rec), number);
+}
 
-/* The glyph of a code. Refused 6, 9. */
-thk_glyph_answer thk_glyph(const uint8_t *bytes, size_t bytes_len, thk_record rec, thk_char_code code);
+/* The glyph of a code. Refused 6, 15 for an unknown mode, 9. */
+static inline thk_glyph_answer thk_glyph(const uint8_t *font, uint64_t font_len, const thk_record *rec,
+                                         thk_char_code code, uint32_t mode)
+{
+    THK_ANSWER(thk_glyph_answer, glyph, font, font_len, THK_GIVE(rec), THK_GIVE(&code), mode);
+}
 
 /* Where a glyph's name stands in the font's bytes, its zero byte not counted. Refused 6, 17, 18. */
-thk_name_answer thk_name(const uint8_t *bytes, size_t bytes_len, thk_record rec, thk_glyph_index glyph);
+static inline thk_name_answer thk_name(const uint8_t *font, uint64_t font_len, const thk_record *rec,
+                                       thk_glyph_index glyph)
+{
+    THK_ANSWER(thk_name_answer, name, font, font_len, THK_GIVE(rec), THK_GIVE(&glyph));
+}
 
 /* A glyph's metrics. Refused 6, 10. */
-thk_metrics_answer thk_metrics(const uint8_t *bytes, size_t bytes_len, thk_record rec, thk_glyph_index glyph);
+static inline thk_metrics_answer thk_metrics(const uint8_t *font, uint64_t font_len, const thk_record *rec,
+                                             thk_glyph_index glyph)
+{
+    THK_ANSWER(thk_metrics_answer, metrics, font, font_len, THK_GIVE(rec), THK_GIVE(&glyph));
+}
+
+/* The accelerators: what the font says of all its glyphs together. The baseline of a line lies `maxbounds.ascent` rows
+ * below the line's top, before `scale`; `font_ascent` and `font_descent` are the rows above and below it that the font
+ * asks for as a line. Refused 6. */
+static inline thk_accel_answer thk_accel(const uint8_t *font, uint64_t font_len, const thk_record *rec)
+{
+    THK_ANSWER(thk_accel_answer, accel, font, font_len, THK_GIVE(rec));
+}
 
 /* The height and width of the font's maximum bounds, as its file states them. A glyph may be wider or reach lower;
  * thk_text_check says what a text needs. Refused 6, 11. */
-thk_extent_answer thk_dimensions(const uint8_t *bytes, size_t bytes_len, thk_record rec);
+static inline thk_extent_answer thk_dimensions(const uint8_t *font, uint64_t font_len, const thk_record *rec)
+{
+    THK_ANSWER(thk_extent_answer, dimensions, font, font_len, THK_GIVE(rec));
+}
 
-/* A character's glyph, placed. Refused 6, 9, 10, 11. */
-thk_info_answer thk_prep_char(const uint8_t *bytes, size_t bytes_len, thk_record rec, thk_char_code code);
+/* A character's glyph, placed. Refused 6, 15 for an unknown mode, 9, 10, 11. */
+static inline thk_info_answer thk_prep_char(const uint8_t *font, uint64_t font_len, const thk_record *rec,
+                                            thk_char_code code, uint32_t mode)
+{
+    THK_ANSWER(thk_info_answer, prep_char, font, font_len, THK_GIVE(rec), THK_GIVE(&code), mode);
+}
 
-/* ---- Drawing. A buffer holds lines of `stride` pixels. Each set bit colours a square of `scale` by `scale` pixels;
- * all others keep their values. Nothing stops a glyph at its line's right end.
+/* ---- Drawing. A page holds lines of `stride` pixels. Each set bit colours a square of `scale` by `scale` pixels; all
+ * others keep their values. Nothing stops a glyph at its line's right end.
  *
  * A bitmap's first pixel p is `start` in thk_draw_bitmap. For a placed glyph `start` is the pen at the top of the line,
  * and the pads are added:
  *
  *     p = start + stride * scale * pad_top + scale * pad_left
- *     m = (buf_len - p) / stride, or 0 where p lies beyond the buffer
+ *     m = (len - p) / stride, or 0 where p lies beyond the page
  *     rows drawn = the smaller of height and m / scale * scale
  *
  * with divisions that round down; the other rows are dropped. m counts strides from p and not lines of the page: at
  * scale 1, on a page that ends with a glyph's last line, only a bitmap that begins at the left end keeps that row. A
- * page with one line more avoids it. A drawn row can still have a pixel to colour beyond the buffer, at a scale above 1
+ * page with one line more avoids it. A drawn row can still have a pixel to colour beyond the page, at a scale above 1
  * or in a bitmap wider than `stride`; then the call is refused (16).
  *
- * `stride` is 1 to 65,535, `scale` 1 to 64, `start` at most 2,147,483,647, and a given width, height or pad at most
- * 32,767; 15 refuses all else. Lengths of buffers count pixels, and for thk_unpack_glyph bytes. A glyph is without a
+ * 15 refuses a start, stride, scale, width, height or pad outside its limits, and an unknown mode. A glyph is without a
  * bitmap if its number is at or above the bitmap count (12). */
 
+/* A page of `len` pixels in lines of `stride`, from its first pixel on, at scale 1, in colour 1, without wrapping, in
+ * mode THK_PLAIN; a program changes what it wants otherwise. */
+static inline thk_page thk_page_of(uint32_t *pixels, uint64_t len, uint64_t stride)
+{
+    thk_page page;
+    page.pixels = pixels;
+    page.len = len;
+    page.start = 0;
+    page.stride = stride;
+    page.scale = 1;
+    page.wrap = THK_NO_WRAP;
+    page.colour = 1;
+    page.mode = THK_PLAIN;
+    return page;
+}
+
+/* Bytes in lines of `stride`, from the first on, in mode THK_PLAIN. */
+static inline thk_cells thk_cells_of(uint8_t *bytes, uint64_t len, uint64_t stride)
+{
+    thk_cells cells;
+    cells.bytes = bytes;
+    cells.len = len;
+    cells.start = 0;
+    cells.stride = stride;
+    cells.mode = THK_PLAIN;
+    return cells;
+}
+
+/* A page's numbers, each under its own name, as they go into the archive. Programs have no need of it. */
+static inline thk_page_numbers thk_numbers_of(const thk_page *page)
+{
+    thk_page_numbers numbers;
+    numbers.start = page->start;
+    numbers.stride = page->stride;
+    numbers.scale = page->scale;
+    numbers.wrap = page->wrap;
+    numbers.colour = page->colour;
+    numbers.mode = page->mode;
+    return numbers;
+}
+
 /* Draws a glyph's bitmap at `start`. Refused 6, 15, 12, 13, 14, 16. */
-thk_rows_answer thk_draw_bitmap(const uint8_t *bytes, size_t bytes_len, thk_record rec, thk_glyph_index glyph,
-                                size_t width, size_t height, uint32_t *buf, size_t buf_len, size_t start,
-                                size_t stride, size_t scale, uint32_t colour);
+static inline thk_rows_answer thk_draw_bitmap(const uint8_t *font, uint64_t font_len, const thk_record *rec,
+                                              thk_bitmap bitmap, const thk_page *page)
+{
+    thk_page_numbers numbers = thk_numbers_of(page);
+    THK_ANSWER(thk_rows_answer, draw_bitmap, font, font_len, THK_GIVE(rec), THK_GIVE(&bitmap), page->pixels, page->len,
+               THK_GIVE(&numbers));
+}
 
 /* Draws a placed glyph. One without a bitmap is no refusal: nothing is drawn, and both numbers of rows are 0. Refused
  * 6, 15, 13, 14, 16. */
-thk_rows_answer thk_draw_glyph(const uint8_t *bytes, size_t bytes_len, thk_record rec, thk_glyph_info info,
-                               uint32_t *buf, size_t buf_len, size_t start, size_t stride, size_t scale,
-                               uint32_t colour);
+static inline thk_rows_answer thk_draw_glyph(const uint8_t *font, uint64_t font_len, const thk_record *rec,
+                                             thk_glyph_info info, const thk_page *page)
+{
+    thk_page_numbers numbers = thk_numbers_of(page);
+    THK_ANSWER(thk_rows_answer, draw_glyph, font, font_len, THK_GIVE(rec), THK_GIVE(&info), page->pixels, page->len,
+               THK_GIVE(&numbers));
+}
 
 /* Draws a character, and answers its placed glyph too. One whose glyph is without a bitmap is no refusal: nothing is
  * drawn, and both numbers of rows are 0. Refused 6, 15, 9, 10, 11, 13, 14, 16. */
-thk_char_answer thk_draw_char(const uint8_t *bytes, size_t bytes_len, thk_record rec, thk_char_code code, uint32_t *buf,
-                              size_t buf_len, size_t start, size_t stride, size_t scale, uint32_t colour);
+static inline thk_char_answer thk_draw_char(const uint8_t *font, uint64_t font_len, const thk_record *rec,
+                                            thk_char_code code, const thk_page *page)
+{
+    thk_page_numbers numbers = thk_numbers_of(page);
+    THK_ANSWER(thk_char_answer, draw_char, font, font_len, THK_GIVE(rec), THK_GIVE(&code), page->pixels, page->len,
+               THK_GIVE(&numbers));
+}
 
 /* Stores 1 for each set bit of every whole row byte of a placed glyph, columns past its width included, and answers how
- * many rows that were. The buffer holds lines of `stride` bytes; the bit at row r and column c is stored at
- * start + stride * pad_top + pad_left + r * stride + c, and all other bytes keep their values, those of clear bits too.
- * No row is dropped. A glyph without a bitmap is no refusal: nothing is stored, and the rows are 0. Refused 6, 15, 13,
- * 14, 16. */
-thk_unpack_answer thk_unpack_glyph(const uint8_t *bytes, size_t bytes_len, thk_record rec, thk_glyph_info info,
-                                   uint8_t *buf, size_t buf_len, size_t start, size_t stride);
+ * many rows that were. The bit at row r and column c is stored at start + stride * pad_top + pad_left + r * stride + c,
+ * and all other bytes keep their values, those of clear bits too. No row is dropped. A glyph without a bitmap is no
+ * refusal: nothing is stored, and the rows are 0. Refused 6, 15, 13, 14, 16. */
+static inline thk_unpack_answer thk_unpack_glyph(const uint8_t *font, uint64_t font_len, const thk_record *rec,
+                                                 thk_glyph_info info, const thk_cells *cells)
+{
+    thk_page_numbers numbers = {0, 0, 0, 0, 0, 0}; /* scale, wrap and colour count for nothing here */
+    numbers.start = cells->start;
+    numbers.stride = cells->stride;
+    numbers.mode = cells->mode;
+    THK_ANSWER(thk_unpack_answer, unpack_glyph, font, font_len, THK_GIVE(rec), THK_GIVE(&info), cells->bytes,
+               cells->len, THK_GIVE(&numbers));
+}
 
 /* ---- Texts, UTF-8 of at most 65,535 bytes. The pen begins at x = y = 0. A character is drawn as thk_draw_glyph draws
  * its glyph, with start + y * stride + x for `start`; then x grows by the glyph's width times `scale`. A newline sets x
@@ -373,17 +656,114 @@ thk_unpack_answer thk_unpack_glyph(const uint8_t *bytes, size_t bytes_len, thk_r
 
 /* Draws a text. Refused 6, 15, 19, 11 of the bounds; then the first character with a refusal decides: 10, 11, 13, 14,
  * 16. */
-thk_text_answer thk_draw_string(const uint8_t *bytes, size_t bytes_len, thk_record rec, const uint8_t *text,
-                                size_t text_len, uint32_t *buf, size_t buf_len, size_t start, uint64_t wrap,
-                                size_t stride, size_t scale, uint32_t colour);
+static inline thk_text_answer thk_draw_string(const uint8_t *font, uint64_t font_len, const thk_record *rec,
+                                              const uint8_t *text, uint64_t text_len, const thk_page *page)
+{
+    thk_page_numbers numbers = thk_numbers_of(page);
+    THK_ANSWER(thk_text_answer, draw_string, font, font_len, THK_GIVE(rec), text, text_len, page->pixels, page->len,
+               THK_GIVE(&numbers));
+}
 
-/* What thk_draw_string answers with a buffer of `len` pixels: a dry run. Refused as that. */
-thk_text_answer thk_text_check(const uint8_t *bytes, size_t bytes_len, thk_record rec, const uint8_t *text,
-                               size_t text_len, size_t len, size_t start, uint64_t wrap, size_t stride, size_t scale);
+/* What thk_draw_string answers: a dry run. The page's pixels are not looked at and may be NULL. Refused as that. */
+static inline thk_text_answer thk_text_check(const uint8_t *font, uint64_t font_len, const thk_record *rec,
+                                             const uint8_t *text, uint64_t text_len, const thk_page *page)
+{
+    thk_page_numbers numbers = thk_numbers_of(page);
+    THK_ANSWER(thk_text_answer, text_check, font, font_len, THK_GIVE(rec), text, text_len, page->len,
+               THK_GIVE(&numbers));
+}
 
 /* The character at byte `i`, and where the next one starts. At or past the text's end `i` is the end. The text may have
  * any length here. Refused 19, with `i` as the place. */
-thk_step_answer thk_utf8_step(const uint8_t *text, size_t text_len, size_t i);
+static inline thk_step_answer thk_utf8_step(const uint8_t *text, uint64_t text_len, uint64_t i)
+{
+    THK_ANSWER(thk_step_answer, utf8_step, text, text_len, i);
+}
+
+#undef THK_DECLARE
+#undef THK_ANSWER
+#undef THK_STRUCT
+#undef THK_GIVE
+
+/* ---- The layout that the archive has. C99 has no way to say it. */
+#if defined(__cplusplus) && __cplusplus >= 201103L
+#define THK_ASSERT(holds) static_assert(holds, "thalluskin: another layout than the archive's")
+#elif !defined(__cplusplus) && defined(__STDC_VERSION__) && __STDC_VERSION__ >= 201112L
+#define THK_ASSERT(holds) _Static_assert(holds, "thalluskin: another layout than the archive's")
+#else
+#define THK_ASSERT(holds) struct thk_nothing
+#endif
+#define THK_SIZE(type, bytes) THK_ASSERT(sizeof(type) == (bytes))
+#define THK_AT(type, field, bytes) THK_ASSERT(offsetof(type, field) == (bytes))
+
+THK_AT(thk_char_code, value, 0); THK_SIZE(thk_char_code, 4);
+THK_AT(thk_glyph_index, value, 0); THK_SIZE(thk_glyph_index, 2);
+THK_AT(thk_props_data, big, 0); THK_AT(thk_props_data, count, 4); THK_AT(thk_props_data, records, 8);
+THK_AT(thk_props_data, strings, 16); THK_AT(thk_props_data, size, 24); THK_SIZE(thk_props_data, 32);
+THK_AT(thk_measures, left, 0); THK_AT(thk_measures, right, 2); THK_AT(thk_measures, width, 4);
+THK_AT(thk_measures, ascent, 6); THK_AT(thk_measures, descent, 8); THK_AT(thk_measures, attributes, 10);
+THK_SIZE(thk_measures, 12);
+THK_AT(thk_accelerators, format, 0); THK_AT(thk_accelerators, no_overlap, 4);
+THK_AT(thk_accelerators, constant_metrics, 5); THK_AT(thk_accelerators, terminal_font, 6);
+THK_AT(thk_accelerators, constant_width, 7); THK_AT(thk_accelerators, ink_inside, 8);
+THK_AT(thk_accelerators, ink_metrics, 9); THK_AT(thk_accelerators, draw_direction, 10);
+THK_AT(thk_accelerators, padding, 11); THK_AT(thk_accelerators, font_ascent, 12);
+THK_AT(thk_accelerators, font_descent, 16); THK_AT(thk_accelerators, max_overlap, 20);
+THK_AT(thk_accelerators, minbounds, 24); THK_AT(thk_accelerators, maxbounds, 36); THK_SIZE(thk_accelerators, 48);
+THK_AT(thk_metrics_data, big, 0); THK_AT(thk_metrics_data, compressed, 1); THK_AT(thk_metrics_data, count, 4);
+THK_AT(thk_metrics_data, records, 8); THK_SIZE(thk_metrics_data, 16);
+THK_AT(thk_bitmap_data, big, 0); THK_AT(thk_bitmap_data, count, 4); THK_AT(thk_bitmap_data, offsets, 8);
+THK_AT(thk_bitmap_data, bits, 16); THK_AT(thk_bitmap_data, size, 24); THK_AT(thk_bitmap_data, pad, 32);
+THK_AT(thk_bitmap_data, unit, 33); THK_AT(thk_bitmap_data, top, 34); THK_SIZE(thk_bitmap_data, 40);
+THK_AT(thk_code_data, big, 0); THK_AT(thk_code_data, low2, 2); THK_AT(thk_code_data, high2, 4);
+THK_AT(thk_code_data, low1, 6); THK_AT(thk_code_data, high1, 8); THK_AT(thk_code_data, default_code, 10);
+THK_AT(thk_code_data, entries, 16); THK_AT(thk_code_data, size, 24); THK_SIZE(thk_code_data, 32);
+THK_AT(thk_name_data, big, 0); THK_AT(thk_name_data, count, 4); THK_AT(thk_name_data, offsets, 8);
+THK_AT(thk_name_data, strings, 16); THK_AT(thk_name_data, size, 24); THK_SIZE(thk_name_data, 32);
+THK_AT(thk_record, props, 0); THK_AT(thk_record, accel, 32); THK_AT(thk_record, metrics, 80);
+THK_AT(thk_record, bitmaps, 96); THK_AT(thk_record, codes, 136); THK_AT(thk_record, names, 168);
+THK_SIZE(thk_record, 200);
+THK_AT(thk_span, start, 0); THK_AT(thk_span, len, 8); THK_SIZE(thk_span, 16);
+THK_AT(thk_extent, height, 0); THK_AT(thk_extent, width, 8); THK_SIZE(thk_extent, 16);
+THK_AT(thk_glyph_info, glyph, 0); THK_AT(thk_glyph_info, width, 2); THK_AT(thk_glyph_info, height, 4);
+THK_AT(thk_glyph_info, pad_top, 6); THK_AT(thk_glyph_info, pad_left, 8); THK_SIZE(thk_glyph_info, 10);
+THK_AT(thk_rows, drawn, 0); THK_AT(thk_rows, dropped, 2); THK_SIZE(thk_rows, 4);
+THK_AT(thk_text_rows, height, 0); THK_AT(thk_text_rows, dropped, 8); THK_SIZE(thk_text_rows, 16);
+THK_AT(thk_page_numbers, start, 0); THK_AT(thk_page_numbers, stride, 8); THK_AT(thk_page_numbers, scale, 16);
+THK_AT(thk_page_numbers, wrap, 24); THK_AT(thk_page_numbers, colour, 32); THK_AT(thk_page_numbers, mode, 36);
+THK_SIZE(thk_page_numbers, 40);
+THK_AT(thk_bitmap, glyph, 0); THK_AT(thk_bitmap, width, 8); THK_AT(thk_bitmap, height, 16); THK_SIZE(thk_bitmap, 24);
+THK_AT(thk_font_answer, refusal, 0); THK_AT(thk_font_answer, place, 8); THK_AT(thk_font_answer, rec, 16);
+THK_SIZE(thk_font_answer, 216);
+THK_AT(thk_property_answer, refusal, 0); THK_AT(thk_property_answer, place, 8); THK_AT(thk_property_answer, name, 16);
+THK_AT(thk_property_answer, is_string, 32); THK_AT(thk_property_answer, number, 36);
+THK_AT(thk_property_answer, string, 40); THK_SIZE(thk_property_answer, 56);
+THK_AT(thk_glyph_answer, refusal, 0); THK_AT(thk_glyph_answer, place, 8); THK_AT(thk_glyph_answer, glyph, 16);
+THK_SIZE(thk_glyph_answer, 24);
+THK_AT(thk_name_answer, refusal, 0); THK_AT(thk_name_answer, place, 8); THK_AT(thk_name_answer, name, 16);
+THK_SIZE(thk_name_answer, 32);
+THK_AT(thk_metrics_answer, refusal, 0); THK_AT(thk_metrics_answer, place, 8); THK_AT(thk_metrics_answer, metrics, 16);
+THK_SIZE(thk_metrics_answer, 32);
+THK_AT(thk_accel_answer, refusal, 0); THK_AT(thk_accel_answer, place, 8); THK_AT(thk_accel_answer, accel, 16);
+THK_SIZE(thk_accel_answer, 64);
+THK_AT(thk_extent_answer, refusal, 0); THK_AT(thk_extent_answer, place, 8); THK_AT(thk_extent_answer, extent, 16);
+THK_SIZE(thk_extent_answer, 32);
+THK_AT(thk_info_answer, refusal, 0); THK_AT(thk_info_answer, place, 8); THK_AT(thk_info_answer, info, 16);
+THK_SIZE(thk_info_answer, 32);
+THK_AT(thk_rows_answer, refusal, 0); THK_AT(thk_rows_answer, place, 8); THK_AT(thk_rows_answer, rows, 16);
+THK_SIZE(thk_rows_answer, 24);
+THK_AT(thk_char_answer, refusal, 0); THK_AT(thk_char_answer, place, 8); THK_AT(thk_char_answer, info, 16);
+THK_AT(thk_char_answer, rows, 26); THK_SIZE(thk_char_answer, 32);
+THK_AT(thk_unpack_answer, refusal, 0); THK_AT(thk_unpack_answer, place, 8); THK_AT(thk_unpack_answer, rows, 16);
+THK_SIZE(thk_unpack_answer, 24);
+THK_AT(thk_text_answer, refusal, 0); THK_AT(thk_text_answer, place, 8); THK_AT(thk_text_answer, rows, 16);
+THK_SIZE(thk_text_answer, 32);
+THK_AT(thk_step_answer, refusal, 0); THK_AT(thk_step_answer, place, 8); THK_AT(thk_step_answer, found, 16);
+THK_AT(thk_step_answer, code, 20); THK_AT(thk_step_answer, next, 24); THK_SIZE(thk_step_answer, 32);
+
+#undef THK_ASSERT
+#undef THK_SIZE
+#undef THK_AT
 
 #ifdef __cplusplus
 }

@@ -14,12 +14,15 @@ from replay import make as replay
 
 LAST = calls.LAST
 # as tests/exports/replay.c numbers them
-KINDS = ["thk_load", "thk_vet", "thk_property", "thk_glyph", "thk_name", "thk_metrics", "thk_dimensions",
+KINDS = ["thk_load", "thk_vet", "thk_property", "thk_glyph", "thk_name", "thk_metrics", "thk_accel", "thk_dimensions",
          "thk_prep_char", "thk_draw_bitmap", "thk_draw_glyph", "thk_draw_char", "thk_unpack_glyph", "thk_draw_string",
          "thk_text_check", "thk_utf8_step"]
-ANSWERS = {name: answer for name, (_, answer) in layouts.functions().items()}
+ANSWERS = {layouts.in_header(name): answer for name, (_, answer) in layouts.functions().items()}
 NUMBERS = ["code", "glyph", "width", "height", "pad_top", "pad_left", "len", "start", "wrap", "stride", "scale",
-           "colour"]
+           "colour", "mode"]
+# those that take a mode, by itself or in a page
+MODED = {"thk_vet", "thk_glyph", "thk_prep_char", "thk_draw_bitmap", "thk_draw_glyph", "thk_draw_char",
+         "thk_unpack_glyph", "thk_draw_string", "thk_text_check"}
 
 
 def zeros(kind):
@@ -44,6 +47,10 @@ def answered(c):
     b, rec, buf, function = c["font"], c["rec"], c["buf"], c["function"]
     where = [c.get(name, 0) for name in ("start", "stride", "scale")]
     colour = c.get("colour", 0)
+    if c.get("mode", 0) and function in MODED:
+        if function != "thk_vet":
+            model.check_record(b, rec)
+        raise model.Refused(15)
     if function == "thk_load":
         return {"rec": model.load(b)}, buf
     if function == "thk_vet":
@@ -60,6 +67,8 @@ def answered(c):
         return {"name": {"start": start, "len": length}}, buf
     if function == "thk_metrics":
         return {"metrics": model.get_metrics(b, rec, c["glyph"])}, buf
+    if function == "thk_accel":
+        return {"accel": model.get_accelerators(b, rec)}, buf
     if function == "thk_dimensions":
         height, width = model.dimensions(b, rec)
         return {"extent": {"height": height, "width": width}}, buf
@@ -185,6 +194,7 @@ def read():
 
 
 def questions(b, rec):
+    yield call("thk_accel", b, rec)
     yield call("thk_dimensions", b, rec)
     for number in sorted({0, 1, 2, 3, rec["props"]["count"], 2 ** 32 - 1}):
         yield call("thk_property", b, rec, code=number)
@@ -206,6 +216,7 @@ def wrong_records():
         rec = model.load(b)
         for change in [*calls.damages(b), *calls.fitting(b)]:
             made = model.changed(rec, {path.replace("__", "."): value for path, value in change.items()})
+            yield call("thk_accel", b, made)
             yield call("thk_dimensions", b, made)
             for code in (0, 0x30, 0x205):
                 yield call("thk_glyph", b, made, code=code)
@@ -259,6 +270,31 @@ def orders_by_lot():
         yield call("thk_draw_string", b, rec, b"abcd", [7] * rng.randrange(100, 900), wrap=LAST, **where)
 
 
+def modes():
+    """every call that takes a mode, in some that are not there: with records that fit and that do not, with arguments
+    within their limits and without, of texts that are UTF-8 and that are not"""
+    f = two_digits()
+    rec = model.load(f)
+    unfit = model.changed(rec, {"names.strings": LAST})
+    for mode in (1, 2, 256, 2 ** 31, 2 ** 32 - 1):
+        yield call("thk_vet", f, mode=mode)
+        yield call("thk_vet", f[:100], mode=mode)
+        for of_font in (rec, unfit):
+            for code in (0x30, 0x32):
+                yield call("thk_glyph", f, of_font, code=code, mode=mode)
+                yield call("thk_prep_char", f, of_font, code=code, mode=mode)
+            for stride in (0, 6, 65536):
+                page = {"start": 0, "stride": stride, "scale": 1, "colour": 5, "mode": mode}
+                box = {"glyph": 1, "width": 3, "height": 3}
+                yield call("thk_draw_bitmap", f, of_font, buf=[7] * 30, **box, **page)
+                yield call("thk_draw_glyph", f, of_font, buf=[7] * 30, **box, **page)
+                yield call("thk_draw_char", f, of_font, buf=[7] * 30, code=0x31, **page)
+                yield call("thk_unpack_glyph", f, of_font, buf=[7] * 30, **box, **page)
+                for text in (b"01", b"0\xff"):
+                    yield call("thk_draw_string", f, of_font, text, [7] * 30, wrap=LAST, **page)
+                    yield call("thk_text_check", f, of_font, text, len=30, wrap=LAST, **page)
+
+
 def all_calls():
-    for group in (read, wrong_records, empty, orders_by_lot, drawn):
+    for group in (read, wrong_records, empty, modes, orders_by_lot, drawn):
         yield from group()

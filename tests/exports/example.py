@@ -7,6 +7,7 @@ import subprocess
 import model
 from common import ROOT, run
 from dump import make as dump
+from exports.header import c_words
 from exports.machine import fail
 from pcf.font_f import two_digits
 
@@ -55,8 +56,8 @@ def example(at, folder):
             page = [0] * (width * height)
             (tall, dropped), page = model.draw_string(font, rec, text, page, 0, width + 1, width, scale, 1)
         except model.Refused as r:
-            words = r"draw: the %s is refused, %d at %d: [a-z].*\n" % (refused, r.number, r.place)
-            expect(what, got, 1, b"", words)
+            words = "draw: the %s is refused, %d at %d: %s\n" % (refused, r.number, r.place, c_words()[r.number])
+            expect(what, got, 1, b"", re.escape(words))
             if os.path.exists(out):
                 fail("draw, %s: a picture of a refused text" % what)
             return

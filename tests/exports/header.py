@@ -1,11 +1,20 @@
-"""The header, against the Rattle sources."""
+"""The header, against the Rattle sources, in the dialects of C and C++ that it is for, and for other processors."""
 import os
 import re
-import shutil
 
-from common import ROOT, read
+from common import ROOT, TESTS, read, run
 from exports import layouts
 from exports.machine import ARCHIVE, fail, must
+from native import library
+
+INCLUDE = os.path.join(ROOT, "include")
+# what has a pointer in it, and does not go into the archive
+IN_HEADER_ALONE = {"thk_page", "thk_cells"}
+SERVED = ["thumbv7em-none-eabi", "thumbv6m-none-eabi", "riscv32-unknown-elf", "riscv64-unknown-elf",
+          "aarch64-linux-gnu", "wasm32-unknown-unknown", "x86_64-linux-gnu"]
+# another order of bytes, and uint64_t at multiples of 4
+NOT_SERVED = ["powerpc64-linux-gnu", "i386-linux-gnu"]
+SILENT, ASSERTING = "c99", ("c11", "c17", "c++11", "c++17")
 
 
 def c_refusals():
@@ -13,7 +22,76 @@ def c_refusals():
     return [(name, int(n)) for name, n in re.findall(r"\bTHK_(\w+) = (\d+)", read("include", "thalluskin.h"))]
 
 
+def c_words():
+    """what the header says of each refusal"""
+    cases = re.findall(r'^    case THK_(\w+):\n        return "(.*)";$', read("include", "thalluskin.h"), re.M)
+    return {dict(c_refusals())[name]: words for name, words in cases}
+
+
+def declared(text):
+    """structs, prototypes and assertions are the sources', and each of the archive's functions has one of the header"""
+    structs = set(re.findall(r"^\} (\w+);", text, re.M)) - IN_HEADER_ALONE
+    if structs != set(layouts.IN_C.values()):
+        fail("the header has %s" % sorted(structs ^ set(layouts.IN_C.values())))
+    prototypes = {("thalluskin_" + name, " ".join(parameters.split()), answer) for answer, name, parameters in re.findall(
+        r"^THK_DECLARE\((\w+), (\w+), (.*?)\);", text, re.M | re.S)}
+    if prototypes != layouts.c_prototypes():
+        fail("the header's prototypes are not the sources': %s" % sorted(prototypes ^ layouts.c_prototypes()))
+    inline = {(name, answer, called) for answer, name, of_it, called in re.findall(
+        r"^static inline (\w+) (thk_\w+)\([^)]*\)\n\{\n(?:    .*\n)*?    THK_ANSWER\((\w+), (\w+),", text, re.M)
+        if answer == of_it}
+    over = {(layouts.in_header(name), answer, name.replace("thalluskin_", "")) for name, _, answer in prototypes}
+    if inline != over:
+        fail("the header's functions are not those over the archive's: %s" % sorted(inline ^ over))
+    stated = re.findall(r"\bTHK_(?:AT|SIZE)\(.*?\);", text)
+    if stated != list(layouts.assertions()):
+        fail("the header asserts another layout: %s" % sorted(set(stated) ^ set(layouts.assertions())))
+    numbers = c_refusals()
+    if [n for _, n in numbers] != list(range(20)) or sorted(c_words()) != list(range(20)):
+        fail("the header's refusals are %s" % numbers)
+    return len(structs), len(prototypes), len(stated)
+
+
+def dialects(at, folder, text):
+    """each compiles it without a warning; with a wrong assertion all refuse it that can"""
+    source, wrong = os.path.join(folder, "empty"), os.path.join(folder, "wrong")
+    os.makedirs(wrong)
+    with open(os.path.join(wrong, "thalluskin.h"), "w") as f:
+        f.write(text.replace("THK_SIZE(thk_record, 200);", "THK_SIZE(thk_record, 196);"))
+    for dialect in (SILENT, *ASSERTING):
+        compiler, suffix = ("g++", ".cc") if "+" in dialect else ("gcc", ".c")
+        with open(source + suffix, "w") as f:
+            f.write('#include "thalluskin.h"\nint main(void) { return thk_utf8_step(0, 0, 0).found; }\n')
+        for include, holds in ((INCLUDE, True), (wrong, dialect == SILENT)):
+            for lent in ([], ["-DTHK_LENT"]):
+                got = run(at.prefix + compiler, "-std=" + dialect, "-Wall", "-Wextra", "-Wconversion", "-Werror",
+                          "-pedantic", *lent, "-I", include, "-c", source + suffix, "-o", source + ".o")
+                if (got.returncode == 0) != holds:
+                    fail("the header in %s, right %s: %s" % (dialect, holds, got.stderr.decode()[-2000:]))
+    must("the header in C++", at.prefix + "g++", "-std=c++11", "-I", INCLUDE, source + ".cc", ARCHIVE, "-o",
+         os.path.join(folder, "cc"))
+
+
+def processors(folder):
+    """the kit's clang takes the header for each processor that it serves, and for no other"""
+    source = os.path.join(folder, "empty.c")
+    freestanding = ["-ffreestanding", "-isystem", library.run("gcc", "-print-file-name=include").strip()]
+    for target in SERVED + NOT_SERVED:
+        got = run(library.compiler(), "--target=" + target, "-std=c11", "-Wall", "-Wextra", "-Werror", "-pedantic",
+                  *freestanding, "-I", INCLUDE, "-fsyntax-only", source)
+        if (got.returncode == 0) != (target in SERVED):
+            fail("the header for %s: %s" % (target, got.stderr.decode()[-2000:]))
+
+
+def limits(at, folder):
+    """the limits are what the archive takes"""
+    program = at.build(os.path.join(TESTS, "exports", "limits.c"), os.path.join(folder, "limits"), "-Wextra", "-std=c99")
+    return int(must("the limits", *program, os.path.join(ROOT, "examples", "f.pcf")))
+
+
 def header(at, folder):
+    text = read("include", "thalluskin.h")
+    counts = declared(text)
     source = os.path.join(folder, "layouts.c")
     with open(source, "w") as f:
         f.write(layouts.c_program())
@@ -21,21 +99,11 @@ def header(at, folder):
     printed = set(must("the layouts", *program).decode().splitlines())
     if printed != layouts.c_rows():
         fail("the header's structs are not the sources': %s" % sorted(printed ^ layouts.c_rows()))
-    text = read("include", "thalluskin.h")
-    structs = set(re.findall(r"^\} (\w+);", text, re.M))
-    if structs != set(layouts.IN_C.values()):
-        fail("the header has %s" % sorted(structs ^ set(layouts.IN_C.values())))
-    prototypes = {(name, " ".join(parameters.split()), answer) for answer, name, parameters in re.findall(
-        r"^(thk_\w+) (thk_\w+)\((.*?)\);", text, re.M | re.S)}
-    if prototypes != layouts.c_prototypes():
-        fail("the header's prototypes are not the sources': %s" % sorted(prototypes ^ layouts.c_prototypes()))
-    numbers = c_refusals()
-    if [n for _, n in numbers] != list(range(20)):
-        fail("the header's refusals are %s" % numbers)
-    if shutil.which(at.prefix + "g++"):
-        empty = os.path.join(folder, "empty.cc")
-        with open(empty, "w") as f:
-            f.write('#include "thalluskin.h"\nint main() { return thk_utf8_step(0, 0, 0).found; }\n')
-        must("the header in C++", at.prefix + "g++", "-std=c++11", "-Wall", "-Wextra", "-Werror", "-pedantic", "-I",
-             os.path.join(ROOT, "include"), empty, ARCHIVE, "-o", os.path.join(folder, "cc"))
-    print("exports: %d structs and %d prototypes of the header are the sources'" % (len(structs), len(prototypes)))
+    dialects(at, folder, text)
+    processors(folder)
+    version = re.search(r'^version = "(\d+)\.(\d+)\.(\d+)"$', read("bindings", "rust", "Cargo.toml"), re.M)
+    number = sum(int(part) * size for part, size in zip(version.groups(), (10000, 100, 1)))
+    if "#define THK_VERSION %d\n" % number not in text:
+        fail("the header's version is not the Rust crate's")
+    print("exports: the header's %d structs, %d prototypes and %d assertions are the sources'; %d dialects, %d processors "
+          "and %d limits" % (*counts, 1 + len(ASSERTING), len(SERVED), limits(at, folder)))

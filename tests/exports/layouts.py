@@ -16,14 +16,16 @@ IN_C = {
     "MetricsUnpacked": "thk_measures", "AcceleratorUnpacked": "thk_accelerators", "MetricsData": "thk_metrics_data",
     "BitmapData": "thk_bitmap_data", "EncodingData": "thk_code_data", "GlyphNameData": "thk_name_data",
     "Record": "thk_record", "Span": "thk_span", "Extent": "thk_extent", "GlyphInfo": "thk_glyph_info",
-    "Rows": "thk_rows", "TextRows": "thk_text_rows", "FontAnswer": "thk_font_answer",
+    "Rows": "thk_rows", "TextRows": "thk_text_rows", "PageNumbers": "thk_page_numbers", "Bitmap": "thk_bitmap",
+    "FontAnswer": "thk_font_answer",
     "PropertyAnswer": "thk_property_answer", "GlyphAnswer": "thk_glyph_answer", "NameAnswer": "thk_name_answer",
-    "MetricsAnswer": "thk_metrics_answer", "ExtentAnswer": "thk_extent_answer", "InfoAnswer": "thk_info_answer",
+    "MetricsAnswer": "thk_metrics_answer", "AccelAnswer": "thk_accel_answer", "ExtentAnswer": "thk_extent_answer",
+    "InfoAnswer": "thk_info_answer",
     "RowsAnswer": "thk_rows_answer", "CharAnswer": "thk_char_answer", "UnpackAnswer": "thk_unpack_answer",
     "TextAnswer": "thk_text_answer", "StepAnswer": "thk_step_answer",
 }
 NUMBERS_IN_C = {"bool": "bool", "u8": "uint8_t", "u16": "uint16_t", "u32": "uint32_t", "u64": "uint64_t",
-                "usize": "size_t", "i16": "int16_t", "i32": "int32_t"}
+                "usize": "uint64_t", "i16": "int16_t", "i32": "int32_t"}
 SLICES_IN_C = {"&[u8]": "const uint8_t *", "&mut [u8]": "uint8_t *", "&mut [u32]": "uint32_t *"}
 IN_RUST = {"MetricsUnpacked": "Metrics", "AcceleratorUnpacked": "Accelerators"}  # the others have their own names
 
@@ -41,14 +43,21 @@ def declared():
 
 
 def functions():
-    """of each exported function its parameters in order, name and type, and its answer's type"""
+    """of each exported function that answers with a struct, so of all but the version's, its parameters in order, name
+    and type, and its answer's type"""
     source = os.path.join("crates", "thalluskin", "src")
     made = {}
     for file in sorted(os.listdir(os.path.join(ROOT, source))):
         for name, parameters, answer in re.findall(
                 r'#\[no_mangle\]\s*pub extern "C" fn (\w+)\((.*?)\) -> (\w+)', read(source, file), re.S):
-            made[name] = (re.findall(r"(\w+): ([^,]+)", parameters), answer)
+            if answer in IN_C:
+                made[name] = (re.findall(r"(\w+): ([^,]+)", parameters), answer)
     return made
+
+
+def in_header(name):
+    """the header's function over one of the archive's"""
+    return name.replace("thalluskin_", "thk_")
 
 
 STRUCTS = declared()
@@ -116,12 +125,12 @@ def at(value, path):
 # ---- in C and in Rust
 
 
-def c_field(name):
-    return {"0": "value", "default": "default_code"}.get(name, name)
-
-
 def rust_field(name):
     return {"default": "default_code"}.get(name, re.sub("([A-Z])", lambda m: "_" + m[1].lower(), name))
+
+
+def c_field(name):
+    return "value" if name == "0" else rust_field(name)
 
 
 def rust_struct(kind):
@@ -133,18 +142,13 @@ def in_c(parameters):
     for name, kind in parameters:
         if kind in SLICES_IN_C:
             yield name, SLICES_IN_C[kind]
-            yield name + "_len", "size_t"
+            yield name + "_len", "uint64_t"
         else:
-            yield name, NUMBERS_IN_C.get(kind) or IN_C[kind]
+            yield name, NUMBERS_IN_C.get(kind) or "THK_STRUCT(%s)" % IN_C[kind]
 
 
-def in_rust(parameters):
-    for name, kind in parameters:
-        if kind in SLICES_IN_C:
-            yield name, ("*mut " if "mut" in kind else "*const ") + kind.split("[")[1].rstrip("]")
-            yield name + "_len", "usize"
-        else:
-            yield name, rust_struct(kind)
+def in_rust(kind):
+    return "u64" if kind == "usize" else rust_struct(kind)
 
 
 def c_prototypes():
@@ -154,8 +158,17 @@ def c_prototypes():
 
 
 def rust_prototypes():
-    return {(name, ", ".join("%s: %s" % of for of in in_rust(parameters)), rust_struct(answer))
+    """the same as the crate lists them"""
+    return {(name, ", ".join("%s: %s" % (of, in_rust(kind)) for of, kind in parameters), rust_struct(answer))
             for name, (parameters, answer) in functions().items()}
+
+
+def assertions():
+    """what the header says of its structs: each field's offset, and the size"""
+    for kind in STRUCTS:
+        for name, offset, _ in fields(kind):
+            yield "THK_AT(%s, %s, %d);" % (IN_C[kind], c_field(name), offset)
+        yield "THK_SIZE(%s, %d);" % (IN_C[kind], size_of(kind))
 
 
 def rows(struct_name, field_name):

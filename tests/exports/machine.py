@@ -37,9 +37,9 @@ def is_native():
 class Native:
     prefix, emulator = "", []
 
-    def build(self, source, program, *options):
+    def build(self, source, program, *options, archive=ARCHIVE):
         must("compiling " + source, self.prefix + "gcc", "-Wall", "-Werror", *options,
-             "-I", os.path.join(ROOT, "include"), source, ARCHIVE, "-o", program)
+             "-I", os.path.join(ROOT, "include"), source, archive, "-o", program)
         return [*self.emulator, program]
 
 
@@ -50,8 +50,8 @@ class Cross(Native):
     def __init__(self, emulator):
         self.emulator = [emulator]
 
-    def build(self, source, program, *options):
-        return Native.build(self, source, program, "-static", *options)
+    def build(self, source, program, *options, **more):
+        return Native.build(self, source, program, "-static", *options, **more)
 
 
 def machine():

@@ -1,7 +1,7 @@
 #!/usr/bin/env python3
-"""Tries libthalluskin.a from outside Rattle: its symbols; the header and the Rust crate against the Rattle sources;
-calls of all its functions from C against the model of document 01; the program examples/draw.c; the Rust crate's own
-tests, and clippy's where it is installed; the README's C, Rust and commands."""
+"""Tries libthalluskin.a from outside Rattle: its symbols and its stack; the header and the Rust crate against the Rattle
+sources; calls of all its functions from C against the model of document 01; the program examples/draw.c; the Rust
+crate's own tests, and clippy's where it is installed; the README's C, Rust and commands."""
 import os
 import sys
 import tempfile
@@ -14,6 +14,7 @@ from exports.machine import fail, machine, native_archive  # noqa: E402
 from exports.readme import readme  # noqa: E402
 from exports.replayed import replay  # noqa: E402
 from exports.rust import rust  # noqa: E402
+from exports.stack import stack  # noqa: E402
 from exports.symbols import symbols  # noqa: E402
 from native import library  # noqa: E402
 
@@ -24,6 +25,7 @@ def main():
     with tempfile.TemporaryDirectory() as folder:
         if at:
             symbols(at)
+            stack(at)
             header(at, folder)
             replay(at, folder)
             example(at, folder)

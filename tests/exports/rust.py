@@ -1,45 +1,64 @@
-"""The Rust crate: its declarations against the Rattle sources, its own tests, and its build script."""
+"""The Rust crate: its declarations against the Rattle sources, its own tests in both shapes of the archive, and its
+build script."""
 import os
 import re
 
 from common import ROOT, read, run
 from exports import layouts
-from exports.header import c_refusals
+from exports.header import c_refusals, c_words
 from exports.machine import ARCHIVE, fail, must
+from native import library
 
 CRATE = os.path.join(ROOT, "bindings", "rust")
 BUILT = os.path.join(ROOT, "target", "rust")
 
 
 def declarations():
-    """the crate's prototypes are the sources', and its refusals the header's"""
-    prototypes = {(name, " ".join(parameters.split()).rstrip(","), answer) for name, parameters, answer in re.findall(
-        r"^    fn (thk_\w+)\((.*?)\) -> (\w+);", read("bindings", "rust", "src", "calls.rs"), re.M | re.S)}
+    """the crate's prototypes are the sources', and its refusals and their words the header's"""
+    listed = re.search(r"^calls! \{$(.*?)^\}$", read("bindings", "rust", "src", "calls.rs"), re.M | re.S)[1]
+    prototypes = {("thalluskin_" + name, parameters, answer) for name, parameters, answer in re.findall(
+        r"^    fn (\w+)\((.*)\) -> (\w+);$", listed, re.M)}
     if prototypes != layouts.rust_prototypes():
         fail("the Rust crate's prototypes are not the sources': %s" % sorted(prototypes ^ layouts.rust_prototypes()))
-    constants = [(name, int(n)) for name, n in re.findall(
-        r"^    pub const (\w+): u32 = (\d+);", read("bindings", "rust", "src", "refusal.rs"), re.M)]
+    refusal = read("bindings", "rust", "src", "refusal.rs")
+    constants = [(name, int(n)) for name, n in re.findall(r"^    pub const (\w+): u32 = (\d+);", refusal, re.M)]
     if constants != c_refusals()[1:]:
         fail("the Rust crate's refusals are not the header's: %s" % sorted(set(constants) ^ set(c_refusals()[1:])))
+    words = {dict(constants)[name]: said for name, said in re.findall(r'Refusal::(\w+) => \{?\s*"(.*)"', refusal)}
+    if {0: c_words()[0], **words} != c_words():
+        fail("the Rust crate's words are not the header's: %s" % sorted(set(words.items()) ^ set(c_words().items())))
 
 
 def build_script(folder):
     """what the crate's build script says to a target or a folder that it cannot link"""
     script = os.path.join(folder, "build")
     must("the build script", "rustc", "--edition", "2021", os.path.join(CRATE, "build.rs"), "-o", script)
-    right = {"PATH": os.environ["PATH"], "CARGO_MANIFEST_DIR": CRATE, "CARGO_CFG_TARGET_ARCH": "x86_64",
-             "CARGO_CFG_TARGET_POINTER_WIDTH": "64", "CARGO_CFG_TARGET_ENDIAN": "little",
-             "CARGO_CFG_TARGET_OS": "linux"}
-    named, other = {"THALLUSKIN_LIB": os.path.dirname(ARCHIVE)}, {"CARGO_CFG_TARGET_ARCH": "aarch64"}
+    right = {"PATH": os.environ["PATH"], "CARGO_MANIFEST_DIR": CRATE, "TARGET": "x86_64-unknown-linux-gnu",
+             "CARGO_CFG_TARGET_ARCH": "x86_64", "CARGO_CFG_TARGET_POINTER_WIDTH": "64",
+             "CARGO_CFG_TARGET_ENDIAN": "little", "CARGO_CFG_TARGET_OS": "linux"}
+    named = {"THALLUSKIN_LIB": os.path.dirname(ARCHIVE)}
+
+    def of(target, arch, **more):
+        return {"TARGET": target, "CARGO_CFG_TARGET_ARCH": arch,
+                **{"CARGO_CFG_TARGET_" + name: value for name, value in more.items()}}
+    arm = of("thumbv7em-none-eabi", "arm", OS="none", POINTER_WIDTH="32")
     tries = [
-        ({}, None), (named, None), ({**other, **named}, None),
+        ({}, None), (named, None), ({**arm, **named}, None), ({**of("armv7-unknown-linux-gnueabi", "arm"), **named}, None),
         ({"THALLUSKIN_LIB": os.path.join("target", "staticlib")}, "absolute path"),
         ({"THALLUSKIN_LIB": ""}, "absolute path"), ({"THALLUSKIN_LIB": folder}, "is not there"),
-        ({**other, "THALLUSKIN_LIB": folder}, "is not there"), (other, "another target"),
+        (of("armv7-unknown-linux-gnueabi", "arm"), "makes no libthalluskin.a for armv7"),
+        (of("aarch64-apple-darwin", "aarch64"), "makes no libthalluskin.a for aarch64-apple"),
     ]
-    for wrong in ({"CARGO_CFG_TARGET_OS": "windows"}, {"CARGO_CFG_TARGET_POINTER_WIDTH": "32"},
-                  {"CARGO_CFG_TARGET_ENDIAN": "big"}):
-        tries += [(wrong, "another target"), ({**other, **named, **wrong}, "another target")]
+    for target, arch, place in (
+            ("thumbv7em-none-eabihf", "arm", "cortex-m4"), ("thumbv6m-none-eabi", "arm", "cortex-m0plus"),
+            ("riscv32imac-unknown-none-elf", "riscv32", "riscv32"), ("riscv64gc-unknown-none-elf", "riscv64", "riscv64"),
+            ("aarch64-unknown-linux-gnu", "aarch64", "aarch64"), ("wasm32-unknown-unknown", "wasm32", "wasm")):
+        if not os.path.exists(os.path.join(ROOT, "target", place)):
+            tries.append((of(target, arch), os.path.join(place, "libthalluskin.a") + " is not there"))
+    for wrong, words in ((of("x86_64-pc-windows-gnu", "x86_64", OS="windows"), "64-bit Linux"),
+                         (of("x86_64-unknown-linux-gnux32", "x86_64", POINTER_WIDTH="32"), "64-bit Linux"),
+                         (of("powerpc64-unknown-linux-gnu", "powerpc64", ENDIAN="big"), "little-endian")):
+        tries += [(wrong, words), ({**wrong, **named}, words)]
     for given, words in tries:
         got = run(script, env={**right, **given}, cwd=ROOT)
         said = got.stderr.decode(errors="replace")
@@ -55,13 +74,15 @@ def rust(folder, archive):
     if "HOME" not in words:
         words["CARGO_HOME"] = os.path.join(BUILT, "home")
 
-    def cargo(*command):
+    def cargo(*command, **more):
         what = "cargo %s" % command[0]
-        return must(what, "cargo", command[0], "--offline", *command[1:], cwd=CRATE, env=words).decode()
+        return must(what, "cargo", command[0], "--offline", *command[1:], cwd=CRATE, env={**words, **more}).decode()
+
+    def passed(said):
+        return [int(n) for n in re.findall(r"^test result: ok. (\d+) passed; 0 failed; 0 ignored", said, re.M)]
 
     cargo("build")
-    said = cargo("test")
-    counts = [int(n) for n in re.findall(r"^test result: ok. (\d+) passed; 0 failed; 0 ignored", said, re.M)]
+    counts = passed(cargo("test"))
     if len(counts) != 2 or 0 in counts:
         fail("cargo test ran %s tests" % counts)
     said = cargo("test", "--lib", "layout", "--", "--nocapture")
@@ -74,6 +95,12 @@ def rust(folder, archive):
     if run("cargo", "clippy", "--version", env=words).returncode == 0:
         cargo("clippy", "--all-targets")
         linted = "clippy passes"
+    if archive == ARCHIVE:
+        lent = library.lent(os.path.join(folder, "lent"))
+        again = passed(cargo("test", "--lib", RUSTFLAGS="--cfg thalluskin_lent", THALLUSKIN_LIB=os.path.dirname(lent),
+                             CARGO_TARGET_DIR=os.path.join(folder, "rust")))
+        if again != counts[:1]:
+            fail("with structs lent, cargo test ran %s tests" % again)
     scripts = build_script(folder)
-    print("exports: Rust: %d unit tests, %d doc tests, %d of the build script, %s; its structs, declarations and "
-          "refusals are the sources'" % (*counts, scripts, linted))
+    print("exports: Rust: %d unit tests, the same with structs lent, %d doc tests, %d of the build script, %s; its "
+          "structs, declarations, refusals and words are the sources'" % (*counts, scripts, linted))

@@ -7,7 +7,7 @@ def symbols(at):
     def named(*options):
         lines = must("nm", at.prefix + "nm", *options, ARCHIVE).decode().splitlines()
         return {line.split()[-1] for line in lines if line and not line.endswith(":")}
-    exported = set(layouts.functions())
+    exported = {*layouts.functions(), "thalluskin_version"}
     if named("-g", "--defined-only") != exported:
         fail("the archive defines %s" % sorted(named("-g", "--defined-only") ^ exported))
     if not named("-u") <= {"memcpy", "memset"}:

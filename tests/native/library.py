@@ -2,8 +2,8 @@
 
 The kit compiles for x86-64 alone. On another machine the LLVM module that the archive is made of, taken where the kit
 hands it to clang, is compiled for that machine by the same clang. Clang fixes how a struct goes by value when it makes
-LLVM from C, so between the module and its callers stand two C files, made from the header: the inner one is compiled
-as the module was, for x86-64 and then on, and takes structs by pointer; the outer one is this machine's own C."""
+LLVM from C, so between the module and the header's functions stands a C file, made from the header: it is compiled as
+the module was, for x86-64 and then on, and has the functions that are lent their structs."""
 import os
 import platform
 import re
@@ -70,21 +70,29 @@ def links(there, here, but):
             os.symlink(os.path.join(there, name), os.path.join(here, name))
 
 
+COMPILER = ["on", platform.machine(), "toolchain", "bin", "clang"]
+
+
+def compiler():
+    """the kit's own clang"""
+    return os.path.join(kit_home(), *COMPILER)
+
+
 def module(folder):
     """the LLVM module of the archive, as a kit hands it to its clang that keeps a copy"""
-    home, parts = kit_home(), ["on", platform.machine(), "toolchain", "bin", "clang"]
+    home, parts = kit_home(), COMPILER
     kept = os.path.join(folder, "module.bc")
     kit = os.path.join(folder, "kit")
     shutil.rmtree(kit, ignore_errors=True)
     for k, but in enumerate(parts):
         links(os.path.join(home, *parts[:k]), os.path.join(kit, *parts[:k]), but)
-    compiler, keeps = os.path.join(home, *parts), os.path.join(kit, *parts)
+    keeps = os.path.join(kit, *parts)
     with open(keeps, "w") as f:
         f.write('#!/bin/sh\nfor word; do case $word in *.bc) cp "$word" %s ;; esac; done\nexec %s "$@"\n' % (
-            quoted(kept), quoted(compiler)))
+            quoted(kept), quoted(compiler())))
     os.chmod(keeps, 0o755)
     staticlib(kit)
-    return compiler, kept
+    return kept
 
 
 def quoted(path):
@@ -92,37 +100,35 @@ def quoted(path):
 
 
 def prototypes():
-    """answer, name and parameters, each a type and a name, of the header's functions"""
+    """answer, name and parameters of the archive's functions as the header declares them; a parameter is its type, its
+    name and whether it is a struct"""
     with open(HEADER) as f:
         text = f.read()
-    for answer, name, given in re.findall(r"^(thk_\w+) (thk_\w+)\((.*?)\);", text, re.M | re.S):
-        yield answer, name, [re.fullmatch(r"(.*?)(\w+)", one.strip(), re.S).groups() for one in given.split(",")]
+    for answer, name, given in re.findall(r"^THK_DECLARE\((\w+), (\w+), (.*?)\);", text, re.M | re.S):
+        parts = [re.fullmatch(r"(?:THK_STRUCT\((\w+)\) |(.*?))(\w+)", " ".join(one.split())) for one in given.split(",")]
+        yield answer, name, [(m[1] + " " if m[1] else m[2], m[3], m[1] is not None) for m in parts]
 
 
-def is_struct(kind):
-    return kind.startswith("thk_")
-
-
-def adapters():
-    """the inner and the outer C file; in the module the place for the answer is the first parameter"""
-    inner, outer = [], ['#include "thalluskin.h"']
-    for _, name, _ in prototypes():
-        inner.append("#define %s declared_%s" % (name, name))
-    inner.append('#include "thalluskin.h"')
+def lending():
+    """the C file; in the module the place for the answer is the first parameter, and is given back"""
+    before, after = [], []
     for answer, name, given in prototypes():
-        by_value = ", ".join(kind + word for kind, word in given)
-        plain = "void plain_%s(%s *out, %s)" % (name, answer, ", ".join(
-            ("const %s*%s" if is_struct(kind) else "%s%s") % (kind, word) for kind, word in given))
-        inner += ["#undef " + name, "%s *%s(%s *out, %s);" % (answer, name, answer, by_value),
-                  plain + ";", "%s { %s(out, %s); }" % (plain, name, values("*", given))]
-        outer += [plain + ";", "%s %s(%s)" % (answer, name, by_value),
-                  "{ %s out; plain_%s(&out, %s); return out; }" % (answer, name, values("&", given))]
-    return "\n".join(inner) + "\n", "\n".join(outer) + "\n"
+        function = "thalluskin_" + name
+        by_value = ", ".join(kind + word for kind, word, _ in given)
+        lent = ", ".join(("const %s*%s" if struct else "%s%s") % (kind, word) for kind, word, struct in given)
+        values = ", ".join("*" * struct + word for _, word, struct in given)
+        before.append("#define %s declared_%s" % (function, name))
+        after += ["#undef " + function, "%s *%s(%s *to, %s);" % (answer, function, answer, by_value),
+                  "void thalluskin_lent_%s(%s *to, %s);" % (name, answer, lent),
+                  "void thalluskin_lent_%s(%s *to, %s) { %s(to, %s); }" % (name, answer, lent, function, values)]
+    return "\n".join([*before, '#include "thalluskin.h"', *after, ""])
 
 
-def values(sign, given):
-    """the parameters' names, a struct's after the sign"""
-    return ", ".join(sign * is_struct(kind) + word for kind, word in given)
+def put_lending(folder):
+    source = os.path.join(folder, "lending.c")
+    with open(source, "w") as f:
+        f.write(lending())
+    return source
 
 
 def compiled(folder):
@@ -131,27 +137,39 @@ def compiled(folder):
     if is_new(made):
         return made
     os.makedirs(folder, exist_ok=True)
-    compiler, kept = module(folder)
+    kept = module(folder)
 
     def at(name):
         return os.path.join(folder, name)
-    for name, text in zip(("inner.c", "outer.c"), adapters()):
-        with open(at(name), "w") as f:
-            f.write(text)
     headers = ["-ffreestanding", "-isystem", run("gcc", "-print-file-name=include").strip(), "-I",
                os.path.dirname(HEADER)]
-    run(compiler, "--target=x86_64-unknown-linux-gnu", "-O3", *headers, "-emit-llvm", "-c", at("inner.c"), "-o",
-        at("inner.bc"))
-    for word, name in ((kept, "module.o"), (at("inner.bc"), "inner.o")):
-        run(compiler, "--target=%s-unknown-linux-gnu" % platform.machine(), "-O3", "-fPIC", "-Wno-override-module",
+    run(compiler(), "--target=x86_64-unknown-linux-gnu", "-O3", *headers, "-emit-llvm", "-c", put_lending(folder), "-o",
+        at("lending.bc"))
+    for word, name in ((kept, "module.o"), (at("lending.bc"), "lending.o")):
+        run(compiler(), "--target=%s-unknown-linux-gnu" % platform.machine(), "-O3", "-fPIC", "-Wno-override-module",
             "-ffunction-sections", "-c", "-x", "ir", word, "-o", at(name))
-    run("ld", "-r", at("module.o"), at("inner.o"), "-o", at("inside.o"))
-    run("objcopy", "--wildcard", "--keep-global-symbol=plain_*", at("inside.o"))
-    run("gcc", "-O2", "-fPIC", "-I", os.path.dirname(HEADER), "-c", at("outer.c"), "-o", at("outer.o"))
+    run("ld", "-r", at("module.o"), at("lending.o"), "-o", at("whole.o"))
+    run("objcopy", "--wildcard", "--keep-global-symbol=thalluskin_lent_*", "--keep-global-symbol=thalluskin_version",
+        at("whole.o"))
+    return packed(made, at("whole.o"))
+
+
+def packed(made, *objects):
     if os.path.exists(made):
         os.remove(made)
-    run("ar", "rcs", made, at("inside.o"), at("outer.o"))
+    run("ar", "rcs", made, *objects)
     return made
+
+
+def lent(folder, prefix=""):
+    """the archive as other machines have it, for x86-64: the kit's own, behind the functions that are lent structs"""
+    os.makedirs(folder, exist_ok=True)
+    lending_o, whole = os.path.join(folder, "lending.o"), os.path.join(folder, "whole.o")
+    run(prefix + "gcc", "-O2", "-fPIC", "-I", os.path.dirname(HEADER), "-c", put_lending(folder), "-o", lending_o)
+    run(prefix + "ld", "-r", "--whole-archive", ARCHIVE, lending_o, "-o", whole)
+    run(prefix + "objcopy", "--wildcard", "--keep-global-symbol=thalluskin_lent_*",
+        "--keep-global-symbol=thalluskin_version", whole)
+    return packed(os.path.join(folder, "libthalluskin.a"), whole)
 
 
 def for_this_machine():
