@@ -1,56 +1,59 @@
 use crate::calls;
+use crate::page::{Cells, Drawing, Page};
 use crate::structs::*;
-use crate::Refusal;
+use crate::{Refusal, PLAIN};
 
 /// A font: the bytes of its file, and the record that loading gave for them.
 ///
-/// Every call answers for any bytes and any record. Where it refuses, buffers are as they were.
+/// Every call answers for any bytes and any record. Where it refuses, pages are as they were. What it answers of the
+/// font's bytes, a name or a property, lives as long as they do.
 ///
 /// # Drawing
 ///
-/// A buffer of pixels holds lines of `stride` pixels. Each set bit colours a square of `scale` by `scale` pixels; all
-/// others keep their values. Nothing stops a glyph at its line's right end.
+/// A [`Page`] holds lines of `stride` pixels. Each set bit colours a square of `scale` by `scale` pixels; all others
+/// keep their values. Nothing stops a glyph at its line's right end.
 ///
 /// A bitmap's first pixel p is `start` in [`Font::draw_bitmap`]. For a placed glyph `start` is the pen at the top of
 /// the line, and the pads are added:
 ///
 /// ```text
 /// p = start + stride * scale * pad_top + scale * pad_left
-/// m = (buf.len() - p) / stride, or 0 where p lies beyond the buffer
+/// m = (pixels.len() - p) / stride, or 0 where p lies beyond the pixels
 /// rows drawn = the smaller of height and m / scale * scale
 /// ```
 ///
 /// with divisions that round down; the other rows are dropped. m counts strides from p and not lines of the page: at
 /// scale 1, on a page that ends with a glyph's last line, only a bitmap that begins at the left end keeps that row. A
-/// page with one line more avoids it. A drawn row can still have a pixel to colour beyond the buffer, at a scale above
-/// 1 or in a bitmap wider than `stride`; then the call is refused (16).
+/// page with one line more avoids it. A drawn row can still have a pixel to colour beyond the page, at a scale above 1
+/// or in a bitmap wider than `stride`; then the call is refused (16).
 ///
-/// `stride` is 1 to 65,535, `scale` 1 to 64, `start` at most 2,147,483,647, and a given width, height or pad at most
-/// 32,767; 15 refuses all else. A glyph is without a bitmap if its number is at or above the bitmap count (12).
+/// `stride` is 1 to [`MAX_STRIDE`](crate::MAX_STRIDE), `scale` 1 to [`MAX_SCALE`](crate::MAX_SCALE), `start` at most
+/// [`MAX_START`](crate::MAX_START), a given width, height or pad at most [`MAX_BOX`](crate::MAX_BOX), and `mode` 0; 15
+/// refuses all else. The calls that take no page are made in mode 0. A glyph is without a bitmap if its number is at or
+/// above the bitmap count (12).
 ///
 /// # Texts
 ///
-/// A text is UTF-8 of at most 65,535 bytes. The pen begins at x = y = 0. A character is drawn as [`Font::draw_glyph`]
-/// draws its glyph, with `start + y * stride + x` for `start`; then x grows by the glyph's width times `scale`. A
-/// newline sets x to 0 and adds the line height to y, which is `scale` times the height that [`Font::dimensions`]
-/// answers.
+/// A text is UTF-8 of at most [`MAX_TEXT`](crate::MAX_TEXT) bytes, a `&str` or bytes. The pen begins at x = y = 0. A
+/// character is drawn as [`Font::draw_glyph`] draws its glyph, with `start + y * stride + x` for `start`; then x grows
+/// by the glyph's width times `scale`. A newline sets x to 0 and adds the line height to y, which is `scale` times the
+/// height that [`Font::dimensions`] answers.
 ///
 /// A glyph for which x plus its width times `scale` is `wrap` or more goes to a new line first, even at a line's
 /// beginning, and by one line at most. So a letter that ends exactly at `wrap` wraps too: on a page 240 pixels wide
-/// `wrap` is 241. Nothing stops a glyph at its line's right end. With `None` lines end at newlines alone, and so they
-/// do with `u64::MAX`, which no line reaches.
+/// `wrap` is 241. Without `wrap` lines end at newlines alone.
 ///
 /// A carriage return and a code without a glyph are skipped. A glyph without a bitmap is no refusal: it draws nothing
 /// and drops nothing, but wraps and moves the pen as any other. The answer's height is y and one line height.
 ///
 /// ```
-/// # use thalluskin::Font;
+/// # use thalluskin::{Drawing, Font};
 /// # let file = include_bytes!("../../../examples/f.pcf");
 /// let font = Font::vet(file)?; // its glyphs are 3 by 3
-/// assert_eq!(font.text_check(b"01", 6 * 3, 0, None, 6, 1)?.dropped, 1);
-/// assert_eq!(font.text_check(b"01", 6 * 4, 0, None, 6, 1)?.dropped, 0);
-/// assert_eq!(font.text_check(b"01", 6 * 7, 0, Some(6), 6, 1)?.height, 6);
-/// assert_eq!(font.text_check(b"01", 6 * 7, 0, Some(7), 6, 1)?.height, 3);
+/// assert_eq!(font.check("01", 6 * 3, Drawing::new(6))?.dropped, 1);
+/// assert_eq!(font.check("01", 6 * 4, Drawing::new(6))?.dropped, 0);
+/// assert_eq!(font.check("01", 6 * 7, Drawing::new(6).wrap(6))?.height, 6);
+/// assert_eq!(font.check("01", 6 * 7, Drawing::new(6).wrap(7))?.height, 3);
 /// # Ok::<(), thalluskin::Refusal>(())
 /// ```
 #[derive(Clone, Copy, Debug)]
@@ -78,17 +81,12 @@ pub enum Value<'a> {
 }
 
 // The value, unless the call was refused.
-fn answer<T>(refusal: u32, place: usize, value: T) -> Result<T, Refusal> {
+fn answer<T>(refusal: u32, place: u64, value: T) -> Result<T, Refusal> {
     if refusal == 0 {
         Ok(value)
     } else {
         Err(Refusal { number: refusal, place })
     }
-}
-
-// The place where lines end, as the library has it. No line reaches the greatest number.
-fn wrap_number(wrap: Option<u64>) -> u64 {
-    wrap.unwrap_or(u64::MAX)
 }
 
 impl<'a> Font<'a> {
@@ -118,8 +116,23 @@ impl<'a> Font<'a> {
     /// let cut = Font::vet(&file[..file.len() - 1]).unwrap_err();
     /// assert_eq!(cut, Refusal { number: Refusal::BAD_TABLE, place: 5 });
     /// ```
+    ///
+    /// Two refusals have two causes that the place alone does not tell apart; the loaded font does:
+    ///
+    /// - 11 at place 0 is of the bounds if [`Font::dimensions`] is refused 11, else of code 0's glyph;
+    /// - 18 at place n is of property n if [`Font::property`] with n is refused 18, else of the name of code n's glyph.
+    ///
+    /// ```
+    /// # use thalluskin::{Font, Refusal};
+    /// # let mut file = *include_bytes!("../../../examples/f.pcf");
+    /// # (file[0x9e], file[0x9f]) = (255, 255);
+    /// // F with maximum bounds that have an ascent of -1
+    /// assert_eq!(Font::vet(&file).unwrap_err(), Refusal { number: Refusal::BAD_METRICS, place: 0 });
+    /// assert_eq!(Font::load(&file)?.dimensions().unwrap_err().number, Refusal::BAD_METRICS);
+    /// # Ok::<(), thalluskin::Refusal>(())
+    /// ```
     pub fn vet(bytes: &'a [u8]) -> Result<Font<'a>, Refusal> {
-        let a = calls::vet(bytes);
+        let a = calls::vet(bytes, PLAIN);
         answer(a.refusal, a.place, Font { bytes, record: a.rec })
     }
 
@@ -127,11 +140,11 @@ impl<'a> Font<'a> {
     /// does not fit the bytes.
     ///
     /// ```
-    /// # use thalluskin::{CharCode, Font, Refusal};
+    /// # use thalluskin::{Font, Refusal};
     /// # let file = include_bytes!("../../../examples/f.pcf");
     /// let kept = *Font::vet(file)?.record();
-    /// assert!(Font::with_record(file, kept).glyph(CharCode(0x30)).is_ok());
-    /// assert_eq!(Font::with_record(b"", kept).glyph(CharCode(0x30)).unwrap_err().number, Refusal::BAD_TABLE);
+    /// assert!(Font::with_record(file, kept).glyph('0').is_ok());
+    /// assert_eq!(Font::with_record(b"", kept).glyph('0').unwrap_err().number, Refusal::BAD_TABLE);
     /// # Ok::<(), thalluskin::Refusal>(())
     /// ```
     pub fn with_record(bytes: &'a [u8], record: Record) -> Font<'a> {
@@ -163,9 +176,11 @@ impl<'a> Font<'a> {
 
     // A part of the font's bytes.
     fn part(&self, span: Span) -> Result<&'a [u8], Refusal> {
-        let outside = Refusal { number: 0, place: span.start };
-        let end = span.start.checked_add(span.len).ok_or(outside)?;
-        self.bytes.get(span.start..end).ok_or(outside)
+        let from = |start: u64, len: u64| {
+            let rest = self.bytes.get(usize::try_from(start).ok()?..)?;
+            rest.get(..usize::try_from(len).ok()?)
+        };
+        from(span.start, span.len).ok_or(Refusal { number: 0, place: span.start })
     }
 
     /// The property with this number, from 0. Refused 6, 17, 18.
@@ -187,18 +202,18 @@ impl<'a> Font<'a> {
         Ok(Property { name: self.part(a.name)?, value })
     }
 
-    /// The glyph of a code. Refused 6, 9.
+    /// The glyph of a code, which a `char` is too. Refused 6, 9.
     ///
     /// ```
     /// # use thalluskin::{CharCode, Font, GlyphIndex, Refusal};
     /// # let file = include_bytes!("../../../examples/f.pcf");
     /// let font = Font::load(file)?;
-    /// assert_eq!(font.glyph('1'.into())?, GlyphIndex(1));
+    /// assert_eq!(font.glyph('1')?, GlyphIndex(1));
     /// assert_eq!(font.glyph(CharCode(0x32)).unwrap_err().number, Refusal::NO_GLYPH);
     /// # Ok::<(), thalluskin::Refusal>(())
     /// ```
-    pub fn glyph(&self, code: CharCode) -> Result<GlyphIndex, Refusal> {
-        let a = calls::glyph(self.bytes, self.record, code);
+    pub fn glyph(&self, code: impl Into<CharCode>) -> Result<GlyphIndex, Refusal> {
+        let a = calls::glyph(self.bytes, self.record, code.into(), PLAIN);
         answer(a.refusal, a.place, a.glyph)
     }
 
@@ -232,8 +247,26 @@ impl<'a> Font<'a> {
         answer(a.refusal, a.place, a.metrics)
     }
 
+    /// The accelerators: what the file states of the font as a whole. A line's baseline lies `maxbounds.ascent` rows
+    /// below its top, before scale. `font_ascent` and `font_descent` are the font's own, as the file states them; texts
+    /// do not go by them. Refused 6.
+    ///
+    /// ```
+    /// # use thalluskin::Font;
+    /// # let file = include_bytes!("../../../examples/f.pcf");
+    /// let font = Font::load(file)?;
+    /// let (stride, scale) = (240, 2);
+    /// let baseline = i64::from(font.accelerators()?.maxbounds.ascent) * scale * stride; // its first pixel
+    /// assert_eq!(baseline, 3 * 2 * 240);
+    /// # Ok::<(), thalluskin::Refusal>(())
+    /// ```
+    pub fn accelerators(&self) -> Result<Accelerators, Refusal> {
+        let a = calls::accel(self.bytes, self.record);
+        answer(a.refusal, a.place, a.accel)
+    }
+
     /// The height and width of the font's maximum bounds, as its file states them. A glyph may be wider or reach lower;
-    /// [`Font::text_check`] says what a text needs. Refused 6, 11.
+    /// [`Font::check`] says what a text needs. Refused 6, 11.
     ///
     /// ```
     /// # use thalluskin::{Extent, Font};
@@ -252,38 +285,28 @@ impl<'a> Font<'a> {
     /// # use thalluskin::{Font, GlyphIndex, GlyphInfo};
     /// # let file = include_bytes!("../../../examples/f.pcf");
     /// let placed = GlyphInfo { glyph: GlyphIndex(1), width: 3, height: 3, pad_top: 0, pad_left: 0 };
-    /// assert_eq!(Font::load(file)?.prep_char('1'.into())?, placed);
+    /// assert_eq!(Font::load(file)?.prep_char('1')?, placed);
     /// # Ok::<(), thalluskin::Refusal>(())
     /// ```
-    pub fn prep_char(&self, code: CharCode) -> Result<GlyphInfo, Refusal> {
-        let a = calls::prep_char(self.bytes, self.record, code);
+    pub fn prep_char(&self, code: impl Into<CharCode>) -> Result<GlyphInfo, Refusal> {
+        let a = calls::prep_char(self.bytes, self.record, code.into(), PLAIN);
         answer(a.refusal, a.place, a.info)
     }
 
     /// Draws a glyph's bitmap at `start`. Refused 6, 15, 12, 13, 14, 16.
     ///
     /// ```
-    /// # use thalluskin::{Font, GlyphIndex, Rows};
+    /// # use thalluskin::{Bitmap, Font, GlyphIndex, Page, Rows};
     /// # let file = include_bytes!("../../../examples/f.pcf");
-    /// let mut page = [0; 9];
-    /// let rows = Font::load(file)?.draw_bitmap(GlyphIndex(0), 3, 3, &mut page, 0, 3, 1, 7)?;
+    /// let mut pixels = [0; 9];
+    /// let whole = Bitmap { glyph: GlyphIndex(0), width: 3, height: 3 };
+    /// let rows = Font::load(file)?.draw_bitmap(whole, &mut Page::new(&mut pixels, 3).colour(7))?;
     /// assert_eq!(rows, Rows { drawn: 3, dropped: 0 });
-    /// assert_eq!(page, [7, 7, 7, 7, 0, 7, 7, 7, 7]);
+    /// assert_eq!(pixels, [7, 7, 7, 7, 0, 7, 7, 7, 7]);
     /// # Ok::<(), thalluskin::Refusal>(())
     /// ```
-    #[allow(clippy::too_many_arguments)]
-    pub fn draw_bitmap(
-        &self,
-        glyph: GlyphIndex,
-        width: usize,
-        height: usize,
-        buf: &mut [u32],
-        start: usize,
-        stride: usize,
-        scale: usize,
-        colour: u32,
-    ) -> Result<Rows, Refusal> {
-        let a = calls::draw_bitmap(self.bytes, self.record, glyph, width, height, buf, start, stride, scale, colour);
+    pub fn draw_bitmap(&self, bitmap: Bitmap, page: &mut Page<'_>) -> Result<Rows, Refusal> {
+        let a = calls::draw_bitmap(self.bytes, self.record, bitmap, page.pixels, page.drawing.numbers());
         answer(a.refusal, a.place, a.rows)
     }
 
@@ -291,25 +314,17 @@ impl<'a> Font<'a> {
     /// Refused 6, 15, 13, 14, 16.
     ///
     /// ```
-    /// # use thalluskin::{Font, Rows};
+    /// # use thalluskin::{Font, Page, Rows};
     /// # let file = include_bytes!("../../../examples/f.pcf");
     /// let font = Font::load(file)?;
-    /// let mut page = [0; 8];
-    /// let rows = font.draw_glyph(font.prep_char('0'.into())?, &mut page, 0, 3, 1, 7)?;
+    /// let mut pixels = [0; 8];
+    /// let rows = font.draw_glyph(font.prep_char('0')?, &mut Page::new(&mut pixels, 3))?;
     /// assert_eq!(rows, Rows { drawn: 2, dropped: 1 });
-    /// assert_eq!(page, [7, 7, 7, 7, 0, 7, 0, 0]);
+    /// assert_eq!(pixels, [1, 1, 1, 1, 0, 1, 0, 0]);
     /// # Ok::<(), thalluskin::Refusal>(())
     /// ```
-    pub fn draw_glyph(
-        &self,
-        info: GlyphInfo,
-        buf: &mut [u32],
-        start: usize,
-        stride: usize,
-        scale: usize,
-        colour: u32,
-    ) -> Result<Rows, Refusal> {
-        let a = calls::draw_glyph(self.bytes, self.record, info, buf, start, stride, scale, colour);
+    pub fn draw_glyph(&self, info: GlyphInfo, page: &mut Page<'_>) -> Result<Rows, Refusal> {
+        let a = calls::draw_glyph(self.bytes, self.record, info, page.pixels, page.drawing.numbers());
         answer(a.refusal, a.place, a.rows)
     }
 
@@ -317,96 +332,70 @@ impl<'a> Font<'a> {
     /// is drawn, and both numbers of rows are 0. Refused 6, 15, 9, 10, 11, 13, 14, 16.
     ///
     /// ```
-    /// # use thalluskin::{Font, Refusal};
+    /// # use thalluskin::{Font, Page, Refusal};
     /// # let file = include_bytes!("../../../examples/f.pcf");
-    /// let mut page = [0; 24];
-    /// let drawn = Font::load(file)?.draw_char('0'.into(), &mut page, 0, 6, 2, 7);
+    /// let mut pixels = [0; 24];
+    /// let drawn = Font::load(file)?.draw_char('0', &mut Page::new(&mut pixels, 6).scale(2));
     /// assert_eq!(drawn.unwrap_err().number, Refusal::BUFFER_SHORT);
-    /// assert_eq!(page, [0; 24]);
+    /// assert_eq!(pixels, [0; 24]);
     /// # Ok::<(), thalluskin::Refusal>(())
     /// ```
-    pub fn draw_char(
-        &self,
-        code: CharCode,
-        buf: &mut [u32],
-        start: usize,
-        stride: usize,
-        scale: usize,
-        colour: u32,
-    ) -> Result<(GlyphInfo, Rows), Refusal> {
-        let a = calls::draw_char(self.bytes, self.record, code, buf, start, stride, scale, colour);
+    pub fn draw_char(&self, code: impl Into<CharCode>, page: &mut Page<'_>) -> Result<(GlyphInfo, Rows), Refusal> {
+        let a = calls::draw_char(self.bytes, self.record, code.into(), page.pixels, page.drawing.numbers());
         answer(a.refusal, a.place, (a.info, a.rows))
     }
 
     /// Stores 1 for each set bit of every whole row byte of a placed glyph, columns past its width included, and
-    /// answers how many rows that were. The buffer holds lines of `stride` bytes; the bit at row r and column c is
-    /// stored at `start + stride * pad_top + pad_left + r * stride + c`, and all other bytes keep their values, those
-    /// of clear bits too. No row is dropped. A glyph without a bitmap is no refusal: nothing is stored, and the rows
-    /// are 0. Refused 6, 15, 13, 14, 16.
+    /// answers how many rows that were. The bit at row r and column c is stored at
+    /// `start + stride * pad_top + pad_left + r * stride + c`, and all other bytes keep their values, those of clear
+    /// bits too. No row is dropped. A glyph without a bitmap is no refusal: nothing is stored, and the rows are 0.
+    /// Refused 6, 15, 13, 14, 16.
     ///
     /// ```
-    /// # use thalluskin::Font;
+    /// # use thalluskin::{Cells, Font};
     /// # let file = include_bytes!("../../../examples/f.pcf");
     /// let font = Font::load(file)?;
     /// let mut bits = [9; 9];
-    /// assert_eq!(font.unpack_glyph(font.prep_char('1'.into())?, &mut bits, 0, 3)?, 3);
+    /// assert_eq!(font.unpack_glyph(font.prep_char('1')?, &mut Cells::new(&mut bits, 3))?, 3);
     /// assert_eq!(bits, [9, 1, 9, 9, 1, 9, 9, 1, 9]);
     /// # Ok::<(), thalluskin::Refusal>(())
     /// ```
-    pub fn unpack_glyph(&self, info: GlyphInfo, buf: &mut [u8], start: usize, stride: usize) -> Result<u16, Refusal> {
-        let a = calls::unpack_glyph(self.bytes, self.record, info, buf, start, stride);
+    pub fn unpack_glyph(&self, info: GlyphInfo, cells: &mut Cells<'_>) -> Result<u16, Refusal> {
+        let a = calls::unpack_glyph(self.bytes, self.record, info, cells.bytes, cells.numbers());
         answer(a.refusal, a.place, a.rows)
     }
 
-    /// Draws a text, UTF-8 of at most 65,535 bytes, as [`Font`] says of texts. Refused 6, 15, 19, 11 of the bounds;
-    /// then the first character with a refusal decides: 10, 11, 13, 14, 16.
+    /// Draws a text, a `&str` or bytes of UTF-8, as [`Font`] says of texts. Refused 6, 15, 19, 11 of the bounds; then
+    /// the first character with a refusal decides: 10, 11, 13, 14, 16.
     ///
     /// ```
-    /// # use thalluskin::{Font, TextRows};
+    /// # use thalluskin::{Font, Page, TextRows};
     /// # let file = include_bytes!("../../../examples/f.pcf");
     /// let font = Font::vet(file)?;
-    /// let mut page = [0; 18];
-    /// let rows = font.draw_string("01".as_bytes(), &mut page, 0, None, 6, 1, 7)?;
+    /// let mut pixels = [0; 18];
+    /// let rows = font.draw("01", &mut Page::new(&mut pixels, 6))?;
     /// assert_eq!(rows, TextRows { height: 3, dropped: 1 });
-    /// assert_eq!(page, [7, 7, 7, 0, 7, 0, 7, 0, 7, 0, 7, 0, 7, 7, 7, 0, 0, 0]);
+    /// assert_eq!(pixels, [1, 1, 1, 0, 1, 0, 1, 0, 1, 0, 1, 0, 1, 1, 1, 0, 0, 0]);
     /// # Ok::<(), thalluskin::Refusal>(())
     /// ```
-    #[allow(clippy::too_many_arguments)]
-    pub fn draw_string(
-        &self,
-        text: &[u8],
-        buf: &mut [u32],
-        start: usize,
-        wrap: Option<u64>,
-        stride: usize,
-        scale: usize,
-        colour: u32,
-    ) -> Result<TextRows, Refusal> {
-        let a = calls::draw_string(self.bytes, self.record, text, buf, start, wrap_number(wrap), stride, scale, colour);
+    pub fn draw(&self, text: impl AsRef<[u8]>, page: &mut Page<'_>) -> Result<TextRows, Refusal> {
+        let a = calls::draw_string(self.bytes, self.record, text.as_ref(), page.pixels, page.drawing.numbers());
         answer(a.refusal, a.place, a.rows)
     }
 
-    /// What [`Font::draw_string`] answers with a buffer of `len` pixels: a dry run. Refused as that.
+    /// What [`Font::draw`] answers on a page of `len` pixels: a dry run. Refused as that.
     ///
     /// ```
-    /// # use thalluskin::{Font, Refusal, TextRows};
+    /// # use thalluskin::{Drawing, Font, Refusal, TextRows};
     /// # let file = include_bytes!("../../../examples/f.pcf");
     /// let font = Font::vet(file)?;
-    /// assert_eq!(font.text_check(b"01", 36, 0, Some(6), 6, 1)?, TextRows { height: 6, dropped: 0 });
-    /// let no_text = font.text_check(b"0\xff", 36, 0, Some(6), 6, 1);
-    /// assert_eq!(no_text, Err(Refusal { number: Refusal::BAD_TEXT, place: 1 }));
+    /// let narrow = Drawing::new(6).wrap(6);
+    /// assert_eq!(font.check("01", 36, narrow)?, TextRows { height: 6, dropped: 0 });
+    /// assert_eq!(font.check(b"0\xff", 36, narrow), Err(Refusal { number: Refusal::BAD_TEXT, place: 1 }));
     /// # Ok::<(), thalluskin::Refusal>(())
     /// ```
-    pub fn text_check(
-        &self,
-        text: &[u8],
-        len: usize,
-        start: usize,
-        wrap: Option<u64>,
-        stride: usize,
-        scale: usize,
-    ) -> Result<TextRows, Refusal> {
-        let a = calls::text_check(self.bytes, self.record, text, len, start, wrap_number(wrap), stride, scale);
+    pub fn check(&self, text: impl AsRef<[u8]>, len: u64, drawing: Drawing) -> Result<TextRows, Refusal> {
+        let a = calls::text_check(self.bytes, self.record, text.as_ref(), len, drawing.numbers());
         answer(a.refusal, a.place, a.rows)
     }
 }
@@ -416,13 +405,22 @@ impl<'a> Font<'a> {
 ///
 /// ```
 /// # use thalluskin::{utf8_step, CharCode, Refusal};
-/// let text = "é0".as_bytes();
-/// assert_eq!(utf8_step(text, 0)?, Some((CharCode(0xe9), 2)));
-/// assert_eq!(utf8_step(text, 3)?, None);
-/// assert_eq!(utf8_step(text, 1), Err(Refusal { number: Refusal::BAD_TEXT, place: 1 }));
+/// assert_eq!(utf8_step("é0", 0)?, Some((CharCode(0xe9), 2)));
+/// assert_eq!(utf8_step("é0", 3)?, None);
+/// assert_eq!(utf8_step("é0", 1), Err(Refusal { number: Refusal::BAD_TEXT, place: 1 }));
 /// # Ok::<(), thalluskin::Refusal>(())
 /// ```
-pub fn utf8_step(text: &[u8], i: usize) -> Result<Option<(CharCode, usize)>, Refusal> {
-    let a = calls::utf8_step(text, i);
+pub fn utf8_step(text: impl AsRef<[u8]>, i: u64) -> Result<Option<(CharCode, u64)>, Refusal> {
+    let a = calls::utf8_step(text.as_ref(), i);
     answer(a.refusal, a.place, if a.found { Some((a.code, a.next)) } else { None })
+}
+
+/// The version of the archive that is linked: 10,000 times its first number, 100 times its second, and its third. 0.1.0
+/// is 100.
+///
+/// ```
+/// assert_eq!(thalluskin::version(), 100);
+/// ```
+pub fn version() -> u32 {
+    calls::version()
 }

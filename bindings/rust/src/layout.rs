@@ -1,5 +1,5 @@
 //! Prints where each field of each struct stands, a line for each: `layout STRUCT FIELD OFFSET SIZE`, and `layout
-//! STRUCT SIZE`. tests/exports/run.py holds these lines to the C header.
+//! STRUCT SIZE`. tests/exports/run.py holds these lines to the Rattle sources.
 use crate::structs::*;
 use core::mem::{size_of, size_of_val};
 use core::ptr::addr_of;
@@ -48,6 +48,8 @@ layouts! {
     GlyphNameData { big, count, offsets, strings, size }
     Record { props, accel, metrics, bitmaps, codes, names }
     Extent { height, width }
+    Bitmap { glyph, width, height }
+    PageNumbers { start, stride, scale, wrap, colour, mode }
     GlyphInfo { glyph, width, height, pad_top, pad_left }
     Rows { drawn, dropped }
     TextRows { height, dropped }
@@ -57,6 +59,7 @@ layouts! {
     GlyphAnswer { refusal, place, glyph }
     NameAnswer { refusal, place, name }
     MetricsAnswer { refusal, place, metrics }
+    AccelAnswer { refusal, place, accel }
     ExtentAnswer { refusal, place, extent }
     InfoAnswer { refusal, place, info }
     RowsAnswer { refusal, place, rows }

@@ -2,15 +2,17 @@
 //! every function is proved to meet its contract.
 //!
 //! ```
-//! use thalluskin::Font;
+//! use thalluskin::{Font, Page};
 //!
 //! # let file: &[u8] = include_bytes!("../../../examples/f.pcf");
 //! let font = Font::vet(file)?;
-//! let mut page = [0u32; 6 * 4];
-//! let rows = font.draw_string("01".as_bytes(), &mut page, 0, Some(7), 6, 1, 1)?;
-//! assert_eq!((rows.height, rows.dropped), (3, 0));
+//! let mut pixels = [0; 14 * 7];
+//! let rows = font.draw("01", &mut Page::new(&mut pixels, 14).wrap(15).scale(2))?;
+//! assert_eq!((rows.height, rows.dropped), (6, 0));
 //! # Ok::<(), thalluskin::Refusal>(())
 //! ```
+//!
+//! Places, lengths and counts are `u64` on every processor, as in the archive.
 #![no_std]
 #![deny(missing_docs)]
 #![deny(unsafe_code)]
@@ -19,19 +21,20 @@
 #![cfg_attr(not(test), deny(clippy::unwrap_used, clippy::expect_used, clippy::panic))]
 
 #[allow(unsafe_code)]
-#[allow(clippy::too_many_arguments)]
 mod calls;
 mod font;
 #[cfg(test)]
 mod layout;
+mod page;
 mod refusal;
 mod structs;
 #[cfg(test)]
 mod tests;
 
-pub use font::{utf8_step, Font, Property, Value};
+pub use font::{utf8_step, version, Font, Property, Value};
+pub use page::{Cells, Drawing, Page, MAX_BOX, MAX_SCALE, MAX_START, MAX_STRIDE, MAX_TEXT, PLAIN};
 pub use refusal::Refusal;
 pub use structs::{
-    Accelerators, BitmapData, CharCode, EncodingData, Extent, GlyphIndex, GlyphInfo, GlyphNameData, Metrics,
+    Accelerators, Bitmap, BitmapData, CharCode, EncodingData, Extent, GlyphIndex, GlyphInfo, GlyphNameData, Metrics,
     MetricsData, PropertiesData, Record, Rows, TextRows,
 };

@@ -1,6 +1,7 @@
-//! The numbers that go into the library and come out of it, laid out as C does.
+//! The numbers that go into the library and come out of it, laid out as C does. Places and lengths have 64 bits on
+//! every processor.
 
-/// A character's code.
+/// A character's code. A `char` becomes one wherever a code is asked for.
 #[repr(C)]
 #[cfg_attr(test, derive(Default))]
 #[derive(Clone, Copy, Debug, PartialEq, Eq, PartialOrd, Ord, Hash)]
@@ -47,11 +48,11 @@ pub struct PropertiesData {
     /// How many properties there are.
     pub count: u32,
     /// Where their records of 9 bytes begin.
-    pub records: usize,
+    pub records: u64,
     /// Where the string data begin.
-    pub strings: usize,
+    pub strings: u64,
     /// How many bytes of string data there are.
-    pub size: usize,
+    pub size: u64,
 }
 
 /// The accelerator table as its file has it. Of this drawing looks at `maxbounds` alone.
@@ -77,16 +78,16 @@ pub struct Accelerators {
     pub draw_direction: u8,
     /// A byte without a meaning.
     pub padding: u8,
-    /// Rows above the baseline, for the font as a whole.
+    /// The font's own rows above the baseline, as its file states them. Lines of text go by `maxbounds` instead.
     pub font_ascent: i32,
-    /// Rows below the baseline, for the font as a whole.
+    /// The font's own rows below the baseline, as its file states them. Lines of text go by `maxbounds` instead.
     pub font_descent: i32,
     /// By how much a glyph reaches past its width at most.
     pub max_overlap: i32,
     /// The minimum bounds: of each metric the least of all glyphs.
     pub minbounds: Metrics,
     /// The maximum bounds: of each metric the greatest of all glyphs. Placing and texts go by what the file states
-    /// here, whatever its glyphs are.
+    /// here, whatever its glyphs are: a line's baseline lies `maxbounds.ascent` rows below its top, before scale.
     pub maxbounds: Metrics,
 }
 
@@ -102,7 +103,7 @@ pub struct MetricsData {
     /// How many glyphs have metrics.
     pub count: u32,
     /// Where the records begin.
-    pub records: usize,
+    pub records: u64,
 }
 
 /// Of the bitmap table.
@@ -115,11 +116,11 @@ pub struct BitmapData {
     /// How many glyphs have a bitmap.
     pub count: u32,
     /// Where their offsets into the bitmap data begin.
-    pub offsets: usize,
+    pub offsets: u64,
     /// Where the bitmap data begin.
-    pub bits: usize,
+    pub bits: u64,
     /// How many bytes of bitmap data there are.
-    pub size: usize,
+    pub size: u64,
     /// A row is padded to a multiple of this many bytes: 1, 2, 4 or 8.
     pub pad: u8,
     /// The format's scan unit code: 0, 1, 2 for units of 1, 2, 4 bytes; any other code, and a unit wider than `pad`,
@@ -147,9 +148,9 @@ pub struct EncodingData {
     /// The default code, which is not used: a code without a glyph has none.
     pub default_code: u16,
     /// Where the entries begin, a glyph's number of 2 bytes for each code.
-    pub entries: usize,
+    pub entries: u64,
     /// How many bytes of entries there are.
-    pub size: usize,
+    pub size: u64,
 }
 
 /// Of the name table.
@@ -162,11 +163,11 @@ pub struct GlyphNameData {
     /// How many glyphs have a name.
     pub count: u32,
     /// Where their offsets into the string data begin.
-    pub offsets: usize,
+    pub offsets: u64,
     /// Where the string data begin.
-    pub strings: usize,
+    pub strings: u64,
     /// How many bytes of string data there are.
-    pub size: usize,
+    pub size: u64,
 }
 
 /// What loading keeps of a font's six tables. Places count from the start of the font's bytes. Programs have no need to
@@ -196,9 +197,9 @@ pub struct Record {
 #[derive(Clone, Copy, Debug, PartialEq, Eq)]
 pub struct Extent {
     /// Ascent and descent together.
-    pub height: usize,
+    pub height: u64,
     /// The width.
-    pub width: usize,
+    pub width: u64,
 }
 
 /// A placed glyph, in the font's own pixels, before `scale`.
@@ -218,6 +219,29 @@ pub struct GlyphInfo {
     pub pad_left: u16,
 }
 
+/// A glyph's bitmap, and how much of it: `width` by `height`, each at most [`MAX_BOX`](crate::MAX_BOX).
+///
+/// ```
+/// # use thalluskin::{Bitmap, Font, GlyphIndex, Page};
+/// # let file = include_bytes!("../../../examples/f.pcf");
+/// let mut pixels = [0; 9];
+/// let top = Bitmap { glyph: GlyphIndex(0), width: 3, height: 1 };
+/// Font::load(file)?.draw_bitmap(top, &mut Page::new(&mut pixels, 3))?;
+/// assert_eq!(pixels, [1, 1, 1, 0, 0, 0, 0, 0, 0]);
+/// # Ok::<(), thalluskin::Refusal>(())
+/// ```
+#[repr(C)]
+#[cfg_attr(test, derive(Default))]
+#[derive(Clone, Copy, Debug, PartialEq, Eq)]
+pub struct Bitmap {
+    /// The glyph's number.
+    pub glyph: GlyphIndex,
+    /// How many columns, from the left.
+    pub width: u64,
+    /// How many rows, from the top.
+    pub height: u64,
+}
+
 /// How many rows of a glyph's bitmap were drawn, and how many were dropped because the buffer ends.
 #[repr(C)]
 #[cfg_attr(test, derive(Default))]
@@ -235,9 +259,22 @@ pub struct Rows {
 #[derive(Clone, Copy, Debug, PartialEq, Eq)]
 pub struct TextRows {
     /// The height in pixels, of all lines.
-    pub height: usize,
+    pub height: u64,
     /// Rows dropped, of all glyphs together.
-    pub dropped: usize,
+    pub dropped: u64,
+}
+
+// The numbers of a drawing; `wrap` with every bit set is none. Unpacking looks at `start`, `stride` and `mode` alone.
+#[repr(C)]
+#[cfg_attr(test, derive(Default))]
+#[derive(Clone, Copy)]
+pub(crate) struct PageNumbers {
+    pub start: u64,
+    pub stride: u64,
+    pub scale: u64,
+    pub wrap: u64,
+    pub colour: u32,
+    pub mode: u32,
 }
 
 // A part of the font's bytes.
@@ -245,8 +282,8 @@ pub struct TextRows {
 #[cfg_attr(test, derive(Default))]
 #[derive(Clone, Copy)]
 pub(crate) struct Span {
-    pub start: usize,
-    pub len: usize,
+    pub start: u64,
+    pub len: u64,
 }
 
 // The answers: a refusal's number or 0, its place, and the values.
@@ -255,7 +292,7 @@ pub(crate) struct Span {
 #[cfg_attr(test, derive(Default))]
 pub(crate) struct FontAnswer {
     pub refusal: u32,
-    pub place: usize,
+    pub place: u64,
     pub rec: Record,
 }
 
@@ -263,7 +300,7 @@ pub(crate) struct FontAnswer {
 #[cfg_attr(test, derive(Default))]
 pub(crate) struct PropertyAnswer {
     pub refusal: u32,
-    pub place: usize,
+    pub place: u64,
     pub name: Span,
     pub is_string: bool,
     pub number: u32,
@@ -274,7 +311,7 @@ pub(crate) struct PropertyAnswer {
 #[cfg_attr(test, derive(Default))]
 pub(crate) struct GlyphAnswer {
     pub refusal: u32,
-    pub place: usize,
+    pub place: u64,
     pub glyph: GlyphIndex,
 }
 
@@ -282,7 +319,7 @@ pub(crate) struct GlyphAnswer {
 #[cfg_attr(test, derive(Default))]
 pub(crate) struct NameAnswer {
     pub refusal: u32,
-    pub place: usize,
+    pub place: u64,
     pub name: Span,
 }
 
@@ -290,15 +327,23 @@ pub(crate) struct NameAnswer {
 #[cfg_attr(test, derive(Default))]
 pub(crate) struct MetricsAnswer {
     pub refusal: u32,
-    pub place: usize,
+    pub place: u64,
     pub metrics: Metrics,
+}
+
+#[repr(C)]
+#[cfg_attr(test, derive(Default))]
+pub(crate) struct AccelAnswer {
+    pub refusal: u32,
+    pub place: u64,
+    pub accel: Accelerators,
 }
 
 #[repr(C)]
 #[cfg_attr(test, derive(Default))]
 pub(crate) struct ExtentAnswer {
     pub refusal: u32,
-    pub place: usize,
+    pub place: u64,
     pub extent: Extent,
 }
 
@@ -306,7 +351,7 @@ pub(crate) struct ExtentAnswer {
 #[cfg_attr(test, derive(Default))]
 pub(crate) struct InfoAnswer {
     pub refusal: u32,
-    pub place: usize,
+    pub place: u64,
     pub info: GlyphInfo,
 }
 
@@ -314,7 +359,7 @@ pub(crate) struct InfoAnswer {
 #[cfg_attr(test, derive(Default))]
 pub(crate) struct RowsAnswer {
     pub refusal: u32,
-    pub place: usize,
+    pub place: u64,
     pub rows: Rows,
 }
 
@@ -322,7 +367,7 @@ pub(crate) struct RowsAnswer {
 #[cfg_attr(test, derive(Default))]
 pub(crate) struct CharAnswer {
     pub refusal: u32,
-    pub place: usize,
+    pub place: u64,
     pub info: GlyphInfo,
     pub rows: Rows,
 }
@@ -331,7 +376,7 @@ pub(crate) struct CharAnswer {
 #[cfg_attr(test, derive(Default))]
 pub(crate) struct UnpackAnswer {
     pub refusal: u32,
-    pub place: usize,
+    pub place: u64,
     pub rows: u16,
 }
 
@@ -339,7 +384,7 @@ pub(crate) struct UnpackAnswer {
 #[cfg_attr(test, derive(Default))]
 pub(crate) struct TextAnswer {
     pub refusal: u32,
-    pub place: usize,
+    pub place: u64,
     pub rows: TextRows,
 }
 
@@ -347,8 +392,8 @@ pub(crate) struct TextAnswer {
 #[cfg_attr(test, derive(Default))]
 pub(crate) struct StepAnswer {
     pub refusal: u32,
-    pub place: usize,
+    pub place: u64,
     pub found: bool,
     pub code: CharCode,
-    pub next: usize,
+    pub next: u64,
 }

@@ -1,5 +1,6 @@
 use crate::*;
 use std::format;
+use std::string::ToString;
 use std::vec;
 use std::vec::Vec;
 
@@ -12,23 +13,69 @@ fn number<T>(answer: Result<T, Refusal>) -> u32 {
     answer.err().map_or(0, |refusal| refusal.number)
 }
 
+fn with_bytes(font: &[u8], changes: &[(u64, u8)]) -> Vec<u8> {
+    let mut changed = font.to_vec();
+    for (at, value) in changes {
+        changed[*at as usize] = *value;
+    }
+    changed
+}
+
 // F cut anywhere is refused; with any byte changed, either it is or a text is only refused for want of pixels.
 #[test]
 fn damaged_fonts() {
     for cut in 0..F.len() {
         assert_ne!(number(Font::vet(&F[..cut])), 0, "cut at {}", cut);
     }
-    for at in 0..F.len() {
+    for at in 0..F.len() as u64 {
         for value in [0, 1, 127, 128, 255] {
-            let mut changed = F.to_vec();
-            changed[at] = value;
+            let changed = with_bytes(F, &[(at, value)]);
             if let Ok(font) = Font::vet(&changed) {
-                let mut page = [0; 100];
-                let drawn = font.draw_string(b"01\n10", &mut page, 0, Some(10), 10, 1, 1);
+                let drawn = font.draw("01\n10", &mut Page::new(&mut [0; 100], 10).wrap(10));
                 assert!([0, Refusal::BUFFER_SHORT].contains(&number(drawn)), "byte {} is {}", at, value);
             }
         }
     }
+}
+
+// What `Font::vet` says of two causes at one place: the bounds or code 0's glyph for 11, a property or a name for 18.
+#[test]
+fn causes_that_share_a_place() {
+    let vetted = |font: &[u8]| Font::vet(font).map(|_| ()).unwrap_err();
+    let (f, big) = (*Font::vet(F).unwrap().record(), *Font::vet(BIG).unwrap().record());
+    // the codes from 0 on: in F, 0 and 1; in BIG, 0 to 2, once their first byte is 0
+    let f_low = with_bytes(F, &[(f.codes.entries - 10, 0), (f.codes.entries - 8, 1)]);
+    let codes = big.codes.entries - 10;
+    let big_low = with_bytes(BIG, &[(codes + 1, 0), (codes + 3, 2), (codes + 5, 0), (codes + 7, 0)]);
+    assert!(Font::vet(&f_low).is_ok() && Font::vet(&big_low).is_ok());
+
+    let at_0 = Refusal { number: Refusal::BAD_METRICS, place: 0 };
+    let maximum_ascent = 0x9e;
+    let bounds = with_bytes(&f_low, &[(maximum_ascent + 1, 0x80)]);
+    assert_eq!(vetted(&bounds), at_0);
+    assert_eq!(number(Font::load(&bounds).unwrap().dimensions()), Refusal::BAD_METRICS);
+    let left_of_0 = with_bytes(&f_low, &[(f.metrics.records, 0x7f)]);
+    assert_eq!(vetted(&left_of_0), at_0);
+    let font = Font::load(&left_of_0).unwrap();
+    assert_eq!(number(font.dimensions()), 0);
+    assert_eq!(number(font.prep_char('\0')), Refusal::BAD_METRICS);
+
+    for place in [0, 2] {
+        let at_place = Refusal { number: Refusal::BAD_STRING, place };
+        let property = with_bytes(&big_low, &[(big.props.records + 9 * place, 0xff)]);
+        assert_eq!(vetted(&property), at_place);
+        assert_eq!(number(Font::load(&property).unwrap().property(place as u32)), Refusal::BAD_STRING);
+        let glyph = Font::load(&big_low).unwrap().glyph(CharCode(place as u32)).unwrap();
+        let name = with_bytes(&big_low, &[(big.names.offsets + 4 * u64::from(glyph.0), 0xff)]);
+        assert_eq!(vetted(&name), at_place);
+        let font = Font::load(&name).unwrap();
+        assert_eq!(number(font.property(place as u32)), 0);
+        assert_eq!(number(font.name(glyph)), Refusal::BAD_STRING);
+    }
+    // in a font without properties it can only be a name
+    let name = with_bytes(&f_low, &[(F.len() as u64 - 1, b'!')]);
+    assert_eq!(vetted(&name), Refusal { number: Refusal::BAD_STRING, place: 1 });
+    assert_eq!(number(Font::load(&name).unwrap().property(1)), Refusal::NO_NAME);
 }
 
 #[test]
@@ -37,10 +84,10 @@ fn empty_slices() {
     assert_eq!(number(Font::load(empty)), Refusal::FILE_SHORT);
     assert_eq!(utf8_step(empty, 0), Ok(None));
     let font = Font::vet(F).unwrap();
-    assert_eq!(font.draw_string(b"", &mut [], 0, None, 1, 1, 1), Ok(TextRows { height: 3, dropped: 0 }));
-    assert_eq!(font.draw_string(b"01", &mut [], 0, None, 1, 1, 1), Ok(TextRows { height: 3, dropped: 6 }));
-    let nil = font.prep_char('0'.into()).unwrap();
-    assert_eq!(number(font.unpack_glyph(nil, &mut [], 0, 1)), Refusal::BUFFER_SHORT);
+    assert_eq!(font.draw("", &mut Page::new(&mut [], 1)), Ok(TextRows { height: 3, dropped: 0 }));
+    assert_eq!(font.draw("01", &mut Page::new(&mut [], 1)), Ok(TextRows { height: 3, dropped: 6 }));
+    let nil = font.prep_char('0').unwrap();
+    assert_eq!(number(font.unpack_glyph(nil, &mut Cells::new(&mut [], 1))), Refusal::BUFFER_SHORT);
 }
 
 #[test]
@@ -48,20 +95,28 @@ fn a_record_of_another_font() {
     let mut record = *Font::load(BIG).unwrap().record();
     assert_eq!(number(Font::with_record(F, record).dimensions()), Refusal::BAD_TABLE);
     record = *Font::load(F).unwrap().record();
-    record.names.strings = usize::MAX;
+    record.names.strings = u64::MAX;
     let font = Font::with_record(F, record);
     assert_eq!(number(font.name(GlyphIndex(0))), Refusal::BAD_TABLE);
     assert_eq!(number(font.property(0)), Refusal::BAD_TABLE);
     assert_eq!(number(font.metrics(GlyphIndex(0))), Refusal::BAD_TABLE);
-    assert_eq!(number(font.draw_char('0'.into(), &mut [0; 9], 0, 3, 1, 1)), Refusal::BAD_TABLE);
+    assert_eq!(number(font.accelerators()), Refusal::BAD_TABLE);
+    assert_eq!(number(font.draw_char('0', &mut Page::new(&mut [0; 9], 3))), Refusal::BAD_TABLE);
 }
 
+// they are parts of the file's bytes, and outlive the font
 #[test]
 fn names_are_parts_of_the_file() {
-    let font = Font::vet(F).unwrap();
-    let name = font.name(GlyphIndex(1)).unwrap();
-    assert_eq!(name, b"one");
-    assert!(F.as_ptr_range().contains(&name.as_ptr()));
+    fn name(file: &[u8]) -> &[u8] {
+        Font::vet(file).unwrap().name(GlyphIndex(1)).unwrap()
+    }
+    fn family(file: &[u8]) -> Property<'_> {
+        Font::vet(file).unwrap().property(0).unwrap()
+    }
+    assert_eq!(name(F), b"one");
+    assert!(F.as_ptr_range().contains(&name(F).as_ptr()));
+    assert_eq!(family(BIG), Property { name: b"FAMILY", value: Value::String(b"Meter") });
+    assert!(BIG.as_ptr_range().contains(&family(BIG).name.as_ptr()));
 }
 
 #[test]
@@ -69,14 +124,28 @@ fn whole_texts() {
     let text = "a\u{e9}\u{20ac}\u{1d11e}\r\n";
     let mut codes = Vec::new();
     let mut i = 0;
-    while let Some((code, next)) = utf8_step(text.as_bytes(), i).unwrap() {
+    while let Some((code, next)) = utf8_step(text, i).unwrap() {
         codes.push(code);
         i = next;
     }
     assert_eq!(codes, text.chars().map(CharCode::from).collect::<Vec<_>>());
-    let long = vec![b'0'; 65_536];
-    let refusal = Font::vet(F).unwrap().text_check(&long, 9, 0, None, 3, 1).unwrap_err();
-    assert_eq!(refusal, Refusal { number: Refusal::BAD_TEXT, place: 0 });
+    let long = vec![b'0'; MAX_TEXT as usize + 1];
+    let font = Font::vet(F).unwrap();
+    assert_eq!(font.check(&long, 9, Drawing::new(3)), Err(Refusal { number: Refusal::BAD_TEXT, place: 0 }));
+    assert!(font.check(&long[1..], 9, Drawing::new(3)).is_ok());
+}
+
+#[test]
+fn a_text_and_its_bytes() {
+    let font = Font::vet(F).unwrap();
+    let text = "0\u{e9}1\n10";
+    let (mut of_str, mut of_bytes) = ([0; 100], [0; 100]);
+    let said = font.draw(text, &mut Page::new(&mut of_str, 10).wrap(7));
+    assert_eq!(said, Ok(TextRows { height: 6, dropped: 0 }));
+    assert_eq!(font.draw(text.as_bytes(), &mut Page::new(&mut of_bytes, 10).wrap(7)), said);
+    assert_eq!(of_str, of_bytes);
+    assert_eq!(font.check(text, 100, Drawing::new(10).wrap(7)), said);
+    assert_eq!(utf8_step(text, 1), utf8_step(text.as_bytes(), 1));
 }
 
 #[test]
@@ -84,7 +153,7 @@ fn steps_at_the_end_and_past_it() {
     let long = vec![b'0'; 65_537];
     assert_eq!(utf8_step(&long, 65_536), Ok(Some((CharCode(0x30), 65_537))));
     assert_eq!(utf8_step(&long, 65_537), Ok(None));
-    assert_eq!(utf8_step(&long, usize::MAX), Ok(None));
+    assert_eq!(utf8_step(&long, u64::MAX), Ok(None));
 }
 
 // a glyph at or above the bitmap count is refused by `draw_bitmap` alone
@@ -93,47 +162,50 @@ fn a_glyph_without_a_bitmap() {
     let mut record = *Font::vet(F).unwrap().record();
     record.bitmaps.count = 1;
     let font = Font::with_record(F, record);
-    let one = font.prep_char('1'.into()).unwrap();
+    let one = font.prep_char('1').unwrap();
     let none = Rows { drawn: 0, dropped: 0 };
-    let mut page = [0; 18];
-    assert_eq!(number(font.draw_bitmap(one.glyph, 3, 3, &mut page, 0, 6, 1, 1)), Refusal::NO_BITMAP);
-    assert_eq!(font.draw_glyph(one, &mut page, 0, 6, 1, 1), Ok(none));
-    assert_eq!(font.draw_char('1'.into(), &mut page, 0, 6, 1, 1), Ok((one, none)));
-    assert_eq!(font.unpack_glyph(one, &mut [], 0, 6), Ok(0));
-    assert_eq!(page, [0; 18]);
+    let mut pixels = [0; 18];
+    let mut page = Page::new(&mut pixels, 6);
+    let bitmap = Bitmap { glyph: one.glyph, width: 3, height: 3 };
+    assert_eq!(number(font.draw_bitmap(bitmap, &mut page)), Refusal::NO_BITMAP);
+    assert_eq!(font.draw_glyph(one, &mut page), Ok(none));
+    assert_eq!(font.draw_char('1', &mut page), Ok((one, none)));
+    assert_eq!(font.unpack_glyph(one, &mut Cells::new(&mut [], 6)), Ok(0));
+    assert_eq!(page.pixels, [0; 18]);
     // it moves the pen all the same
-    assert_eq!(font.draw_string(b"10", &mut page, 0, Some(7), 6, 1, 1), Ok(TextRows { height: 3, dropped: 1 }));
-    assert_eq!(page, [0, 0, 0, 1, 1, 1, 0, 0, 0, 1, 0, 1, 0, 0, 0, 0, 0, 0]);
+    assert_eq!(font.draw("10", &mut page.wrap(7)), Ok(TextRows { height: 3, dropped: 1 }));
+    assert_eq!(pixels, [0, 0, 0, 1, 1, 1, 0, 0, 0, 1, 0, 1, 0, 0, 0, 0, 0, 0]);
 }
 
 // F with the lowest bit leftmost, and its rows in two-byte units whose low byte comes first, draw the same pixels
 #[test]
 fn other_orders() {
-    let pixels = |font: Font, text: &[u8]| {
-        let mut page = [0; 24];
-        assert_eq!(font.draw_string(text, &mut page, 0, None, 6, 1, 1), Ok(TextRows { height: 3, dropped: 0 }));
-        page
+    let pixels = |font: Font, text: &str| {
+        let mut pixels = [0; 24];
+        assert_eq!(font.draw(text, &mut Page::new(&mut pixels, 6)), Ok(TextRows { height: 3, dropped: 0 }));
+        pixels
     };
     let usual = Font::vet(F).unwrap();
     let data = usual.record().bitmaps;
+    let (offsets, bits, size) = (data.offsets as usize, data.bits as usize, data.size as usize);
     let mut lowest = F.to_vec();
-    lowest[data.offsets - 8] ^= 8; // the table's format
-    for byte in &mut lowest[data.bits..data.bits + data.size] {
+    lowest[offsets - 8] ^= 8; // the table's format
+    for byte in &mut lowest[bits..bits + size] {
         *byte = byte.reverse_bits();
     }
     let font = Font::vet(&lowest).unwrap();
     assert!(data.top && !font.record().bitmaps.top);
-    assert_eq!(pixels(font, b"01"), pixels(usual, b"01"));
+    assert_eq!(pixels(font, "01"), pixels(usual, "01"));
 
     let mut paired = F.to_vec();
-    for row in &F[data.bits..data.bits + 3] {
+    for row in &F[bits..bits + 3] {
         paired.extend([0, *row]);
     }
     let mut record = *usual.record();
-    record.bitmaps = BitmapData { bits: F.len(), size: 6, pad: 2, unit: 1, ..data };
-    assert_eq!(pixels(Font::with_record(&paired, record), b"0"), pixels(usual, b"0"));
+    record.bitmaps = BitmapData { bits: F.len() as u64, size: 6, pad: 2, unit: 1, ..data };
+    assert_eq!(pixels(Font::with_record(&paired, record), "0"), pixels(usual, "0"));
     record.bitmaps.size = 5; // without the byte that holds the last row's columns
-    let short = Font::with_record(&paired, record).draw_char('0'.into(), &mut [0; 18], 0, 6, 1, 1);
+    let short = Font::with_record(&paired, record).draw_char('0', &mut Page::new(&mut [0; 18], 6));
     assert_eq!(number(short), Refusal::BITMAP_SHORT);
 }
 
@@ -141,8 +213,8 @@ fn other_orders() {
 #[test]
 fn the_cut() {
     let font = Font::vet(F).unwrap();
-    let nil = font.prep_char('0'.into()).unwrap();
-    let rows = |info, len| font.draw_glyph(info, &mut vec![0; len], 0, 6, 1, 1).unwrap().drawn;
+    let nil = font.prep_char('0').unwrap();
+    let rows = |info, len| font.draw_glyph(info, &mut Page::new(&mut vec![0; len], 6)).unwrap().drawn;
     assert_eq!((rows(nil, 18), rows(nil, 17)), (3, 2));
     let right = GlyphInfo { pad_left: 1, ..nil };
     assert_eq!((rows(right, 18), rows(right, 19)), (2, 3));
@@ -150,17 +222,108 @@ fn the_cut() {
     assert_eq!((rows(lower, 30), rows(lower, 31), rows(lower, 12)), (2, 3, 0));
 }
 
+// each number of a page goes where it belongs
+#[test]
+fn the_numbers_of_a_page() {
+    let font = Font::vet(F).unwrap();
+    let mut pixels = [0; 8 * 8];
+    let numbers = Drawing::new(8).start(1).scale(2).colour(9);
+    assert_eq!(font.draw("1", &mut numbers.on(&mut pixels)), Ok(TextRows { height: 6, dropped: 0 }));
+    for (at, pixel) in pixels.iter().enumerate() {
+        assert_eq!(*pixel, if at / 8 < 6 && [3, 4].contains(&(at % 8)) { 9 } else { 0 }, "pixel {}", at);
+    }
+    let mut again = [0; 8 * 8];
+    let mut page = Page::new(&mut again, 8).start(1).scale(2).colour(9);
+    assert_eq!((page.drawing, page.room()), (numbers, 64));
+    assert_eq!(font.draw("1", &mut page), font.check("1", page.room(), page.drawing));
+    assert_eq!(page.pixels, pixels);
+}
+
 #[test]
 fn a_wrap_that_no_line_reaches_is_none() {
     let font = Font::vet(F).unwrap();
-    assert_eq!(font.text_check(b"0101", 99, 0, Some(u64::MAX), 12, 1), font.text_check(b"0101", 99, 0, None, 12, 1));
-    assert_eq!(font.text_check(b"0101", 99, 0, Some(0), 12, 1).unwrap().height, 15);
+    let none = Drawing::new(12);
+    assert_eq!(font.check("0101", 99, none.wrap(u64::MAX)), font.check("0101", 99, none));
+    assert_eq!(font.check("0101", 99, none.wrap(0)).unwrap().height, 15);
+}
+
+#[test]
+fn a_mode_that_there_is_not() {
+    let font = Font::vet(F).unwrap();
+    let nil = font.prep_char('0').unwrap();
+    let whole = Bitmap { glyph: nil.glyph, width: 3, height: 3 };
+    let (mut pixels, mut bytes) = ([5; 24], [5; 24]);
+    for mode in [1, u32::MAX] {
+        let page = &mut Page::new(&mut pixels, 6).mode(mode);
+        let refused = [
+            number(font.draw_bitmap(whole, page)),
+            number(font.draw_glyph(nil, page)),
+            number(font.draw_char('0', page)),
+            number(font.draw("0", page)),
+            number(font.check("0", 24, page.drawing)),
+            number(font.unpack_glyph(nil, &mut Cells::new(&mut bytes, 6).mode(mode))),
+        ];
+        assert_eq!(refused, [Refusal::BAD_ARGUMENT; 6]);
+    }
+    assert_eq!((pixels, bytes), ([5; 24], [5; 24]));
+}
+
+// the calls that take a mode and no page
+#[test]
+fn a_mode_without_a_page() {
+    let record = *Font::vet(F).unwrap().record();
+    assert_eq!(calls::vet(F, 1).refusal, Refusal::BAD_ARGUMENT);
+    assert_eq!(calls::glyph(F, record, '0'.into(), 1).refusal, Refusal::BAD_ARGUMENT);
+    assert_eq!(calls::prep_char(F, record, '0'.into(), 1).refusal, Refusal::BAD_ARGUMENT);
+}
+
+// every glyph's baseline is its line's
+#[test]
+fn baselines() {
+    for file in [F, BIG] {
+        let font = Font::vet(file).unwrap();
+        let line = font.accelerators().unwrap();
+        assert_eq!(line, font.record().accel);
+        let mut met = 0;
+        for code in (0..0x1_0000).map(CharCode) {
+            if let Ok(info) = font.prep_char(code) {
+                let ascent = i32::from(font.metrics(info.glyph).unwrap().ascent);
+                assert_eq!(i32::from(info.pad_top) + ascent, i32::from(line.maxbounds.ascent));
+                met += 1;
+            }
+        }
+        assert!(met > 1);
+    }
+}
+
+#[test]
+fn the_version() {
+    let numbers = [env!("CARGO_PKG_VERSION_MAJOR"), env!("CARGO_PKG_VERSION_MINOR"), env!("CARGO_PKG_VERSION_PATCH")];
+    let [major, minor, patch] = numbers.map(|number| number.parse::<u32>().unwrap());
+    assert_eq!(version(), 10_000 * major + 100 * minor + patch);
 }
 
 #[test]
 fn every_number_has_its_words() {
-    for number in 0..20 {
-        let said = format!("{}", Refusal { number, place: 3 });
-        assert!(said.starts_with(&format!("refused {} at 3: ", number)) && !said.ends_with("unknown reason"));
+    let mut all = Vec::new();
+    for number in 0..21 {
+        let refusal = Refusal { number, place: 3 };
+        assert_eq!(refusal.to_string(), format!("refused {} at 3: {}", number, refusal.reason()));
+        assert!(!all.contains(&refusal.reason()));
+        all.push(refusal.reason());
     }
+    assert_eq!(all[20], "an unknown reason");
+}
+
+#[cfg(thalluskin_core_error)]
+#[test]
+fn a_refusal_is_an_error() {
+    fn first_byte(file: &[u8]) -> Result<u8, std::boxed::Box<dyn core::error::Error>> {
+        Ok(Font::load(file)?.bytes()[0])
+    }
+    assert_eq!(first_byte(F).unwrap(), 1);
+    assert_eq!(first_byte(b"").unwrap_err().to_string(), "refused 1 at 0: the file has under 8 bytes");
+    let error: &dyn core::error::Error = &Refusal { number: Refusal::NO_GLYPH, place: 0 };
+    assert_eq!(error.to_string(), "refused 9 at 0: the font has no glyph for this code");
+    assert!(error.source().is_none());
 }
