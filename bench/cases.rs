@@ -1,9 +1,17 @@
 //! What is measured: a call that each of its sides makes with the same arguments.
-use crate::structs::Record;
+use crate::structs::{PageNumbers, Record};
 use crate::{calls, plain};
 use original::LoadedPCF;
 
 pub const COLOUR: u32 = 0x00C0_FFEE;
+pub const NO_WRAP: u64 = u64::MAX;
+/// The port's one mode, which the other sides do not have.
+pub const PLAIN: u32 = 0;
+
+/// The numbers of a drawing from a page's first pixel on, as the port takes them.
+pub fn numbers(stride: usize, scale: usize, wrap: u64) -> PageNumbers {
+    PageNumbers { start: 0, stride: stride as u64, scale: scale as u64, wrap, colour: COLOUR, mode: PLAIN }
+}
 
 /// A font as each side keeps it. The program keeps it until its end.
 pub struct Font {

@@ -1,7 +1,7 @@
 //! Calls with a placed glyph, made for each printable ASCII character.
 use crate::calls;
-use crate::cases::{on_cleared, Case, Drawing, Font, Side, COLOUR};
-use crate::structs::{CharCode, GlyphInfo, Rows, RowsAnswer, UnpackAnswer};
+use crate::cases::{numbers, on_cleared, Case, Drawing, Font, Side, COLOUR, NO_WRAP, PLAIN};
+use crate::structs::{CharCode, GlyphInfo, PageNumbers, Rows, RowsAnswer, UnpackAnswer};
 use std::hint::black_box;
 
 /// The characters as the port and 000 place them. The loops in C take the port's.
@@ -14,7 +14,7 @@ impl Placed {
     fn of(font: &'static Font) -> Placed {
         let mut placed = Placed { port: Vec::new(), original: Vec::new() };
         for c in ' '..='~' {
-            let one = calls::prep_char(font.bytes, font.rec, CharCode::from(c));
+            let one = calls::prep_char(font.bytes, font.rec, CharCode::from(c), PLAIN);
             let other = font.original.prep_char(c).expect("000 has no such glyph");
             assert_eq!(one.refusal, 0, "the port has no such glyph");
             assert_eq!(
@@ -118,6 +118,8 @@ pub struct Draw {
     font: &'static Font,
     stride: usize,
     scale: usize,
+    /// These for the port, made once, so that no call is charged with it.
+    numbers: PageNumbers,
 }
 
 /// Each character at the start of a page of one letter.
@@ -127,7 +129,8 @@ impl Glyphs {
     pub fn of(font: &'static Font, scale: usize) -> Glyphs {
         let (height, width) = font.extent();
         let stride = width * scale;
-        EachGlyph::with(Draw { font, stride, scale }, font, stride * scale * (height + 1))
+        let numbers = numbers(stride, scale, NO_WRAP);
+        EachGlyph::with(Draw { font, stride, scale, numbers }, font, stride * scale * (height + 1))
     }
 }
 
@@ -138,7 +141,7 @@ impl GlyphCall for Draw {
 
     fn port(&self, info: GlyphInfo, page: &mut [u32]) -> RowsAnswer {
         let Font { bytes, rec, .. } = self.font;
-        calls::draw_glyph(bytes, *rec, info, page, 0, self.stride, self.scale, COLOUR)
+        calls::draw_glyph(bytes, *rec, info, page, self.numbers)
     }
 
     fn original(&self, info: original::GlyphInfo, page: &mut [u32]) {
@@ -160,6 +163,8 @@ impl GlyphCall for Draw {
 pub struct Unpack {
     font: &'static Font,
     stride: usize,
+    /// For the port, made once.
+    numbers: PageNumbers,
 }
 
 /// Each character unpacked to bytes, which in 000 are `bool`s.
@@ -170,7 +175,7 @@ impl Unpacked {
         let (height, width) = font.extent();
         // whole row bytes are unpacked
         let stride = width.next_multiple_of(8);
-        EachGlyph::with(Unpack { font, stride }, font, stride * height)
+        EachGlyph::with(Unpack { font, stride, numbers: numbers(stride, 1, NO_WRAP) }, font, stride * height)
     }
 }
 
@@ -181,7 +186,7 @@ impl GlyphCall for Unpack {
 
     fn port(&self, info: GlyphInfo, unpacked: &mut [u8]) -> UnpackAnswer {
         let Font { bytes, rec, .. } = self.font;
-        calls::unpack_glyph(bytes, *rec, info, unpacked, 0, self.stride)
+        calls::unpack_glyph(bytes, *rec, info, unpacked, self.numbers)
     }
 
     fn original(&self, info: original::GlyphInfo, unpacked: &mut [u8]) {

@@ -22,7 +22,7 @@ struct plain_font {
 /* A placed glyph, and what is answered. */
 struct plain_info { uint16_t glyph, width, height, pad_top, pad_left; };
 struct plain_rows { uint16_t drawn, dropped; };
-struct plain_text_rows { size_t height, dropped; };
+struct plain_text_rows { uint64_t height, dropped; };
 
 static uint16_t number2(const uint8_t *at, int big)
 {

@@ -54,7 +54,7 @@ extern "C" {
 impl Font {
     pub fn of(bytes: &'static [u8], rec: &Record) -> Font {
         let Record { accel, metrics, bitmaps, codes, .. } = rec;
-        let at = |place: usize| bytes[place..].as_ptr();
+        let at = |place: u64| bytes[place as usize..].as_ptr();
         Font {
             offsets: at(bitmaps.offsets),
             bits: at(bitmaps.bits),

@@ -1,6 +1,6 @@
 //! What is asked of a font without drawing.
 use crate::calls;
-use crate::cases::{Case, Font, Side};
+use crate::cases::{Case, Font, Side, PLAIN};
 use crate::structs::CharCode;
 use original::{plain, LoadedPCF};
 use std::hint::black_box;
@@ -38,11 +38,11 @@ impl Case for Vet {
     }
 
     fn port(&mut self) {
-        black_box(calls::vet(black_box(self.0.bytes)));
+        black_box(calls::vet(black_box(self.0.bytes), PLAIN));
     }
 
     fn same(&mut self) -> bool {
-        calls::vet(self.0.bytes).refusal == 0
+        calls::vet(self.0.bytes, PLAIN).refusal == 0
     }
 }
 
@@ -72,7 +72,7 @@ impl Case for Lookup {
     fn port(&mut self) {
         let Font { bytes, rec, .. } = self.font;
         for &code in &self.codes {
-            black_box(calls::glyph(bytes, *rec, CharCode::from(code)));
+            black_box(calls::glyph(bytes, *rec, CharCode::from(code), PLAIN));
         }
     }
 
@@ -85,7 +85,7 @@ impl Case for Lookup {
     fn same(&mut self) -> bool {
         let Font { bytes, rec, original, .. } = self.font;
         self.codes.iter().all(|&code| {
-            let found = calls::glyph(bytes, *rec, CharCode::from(code));
+            let found = calls::glyph(bytes, *rec, CharCode::from(code), PLAIN);
             let glyph = (found.refusal == 0).then_some(found.glyph.0);
             glyph == plain::glyph(original, code) && (glyph.is_some() || found.refusal == 9)
         })
@@ -96,7 +96,7 @@ impl Case for Lookup {
     }
 }
 
-/// A lookup with no bytes, refused as soon as the test of the record begins: what a call with a record takes at least.
+/// A lookup with no bytes, which the test of the record refuses: what a call with a record takes at least.
 pub struct NoBytes(pub Lookup);
 
 impl Case for NoBytes {
@@ -106,12 +106,12 @@ impl Case for NoBytes {
 
     fn port(&mut self) {
         for &code in &self.0.codes {
-            black_box(calls::glyph(&[], self.0.font.rec, CharCode::from(code)));
+            black_box(calls::glyph(&[], self.0.font.rec, CharCode::from(code), PLAIN));
         }
     }
 
     fn same(&mut self) -> bool {
-        calls::glyph(&[], self.0.font.rec, CharCode::from('0')).refusal == 6
+        calls::glyph(&[], self.0.font.rec, CharCode::from('0'), PLAIN).refusal == 6
     }
 
     fn per(&self) -> usize {

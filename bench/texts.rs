@@ -1,10 +1,8 @@
 //! A text, drawn.
 use crate::calls;
-use crate::cases::{on_cleared, Case, Drawing, Font, Side, COLOUR};
+use crate::cases::{numbers, on_cleared, Case, Drawing, Font, Side, COLOUR, NO_WRAP};
 use crate::structs::{TextAnswer, TextRows};
 use std::hint::black_box;
-
-const NO_WRAP: u64 = u64::MAX;
 
 /// All sides draw on the one page, which is never cleared while time is taken.
 pub struct Text {
@@ -23,7 +21,7 @@ struct TextCall {
 impl TextCall {
     fn port(&self, page: &mut [u32]) -> TextAnswer {
         let Font { bytes, rec, .. } = self.font;
-        calls::draw_string(bytes, *rec, self.text.as_bytes(), page, 0, self.wrap, self.stride, self.scale, COLOUR)
+        calls::draw_string(bytes, *rec, self.text.as_bytes(), page, numbers(self.stride, self.scale, self.wrap))
     }
 
     fn original(&self, page: &mut [u32]) -> usize {
@@ -83,7 +81,7 @@ impl Case for Text {
         let inked = self.call.text.trim().is_empty() || drawn.1.contains(&COLOUR);
         let (height, page) = on_cleared(self.page.len(), |page| self.call.original(page));
         // 000 does not say how many rows it dropped
-        let original = (TextRows { height, dropped: 0 }, page);
+        let original = (TextRows { height: height as u64, dropped: 0 }, page);
         let plain = on_cleared(self.page.len(), |page| self.call.plain(page));
         inked && drawn == original && drawn == plain
     }
@@ -109,7 +107,8 @@ pub struct TextCheck(pub Text);
 impl TextCheck {
     fn check(&self) -> TextAnswer {
         let Text { call: TextCall { font, text, wrap, stride, scale }, page } = &self.0;
-        calls::text_check(font.bytes, font.rec, text.as_bytes(), page.len(), 0, *wrap, *stride, *scale)
+        let numbers = numbers(*stride, *scale, *wrap);
+        calls::text_check(font.bytes, font.rec, text.as_bytes(), page.len() as u64, numbers)
     }
 }
 

@@ -126,7 +126,7 @@ pub fn call(pair: &Pair, call: &Call, tally: &mut Tally) -> Verdict {
 
 /// a twin's strings stand elsewhere
 fn in_our_places(pair: &Pair, function: Function, values: &mut Values, kind: Kind) {
-    let moved = |at: u64, from: usize, to: usize| at.wrapping_sub(from as u64).wrapping_add(to as u64);
+    let moved = |at: u64, from: usize, to: u64| at.wrapping_sub(from as u64).wrapping_add(to);
     let (t, o) = (&pair.fields, &pair.rec);
     match function {
         Name if kind == Kind::Returned => values[0] = moved(values[0], t.names.data.start, o.names.strings),
@@ -271,7 +271,7 @@ impl Asked<'_> {
     }
 
     /// 000's placing of metrics that the port reads elsewhere or refuses
-    fn as_000_places(&self, glyph: u16, sooner: usize) -> Verdict {
+    fn as_000_places(&self, glyph: u16, sooner: u64) -> Verdict {
         let m = reading::metrics(self.pair.ours, self.rec(), glyph, sooner).expect("metrics");
         let placed = reading::placed(glyph, &m, &self.rec().accel.maxbounds);
         match (self.their.kind, placed) {

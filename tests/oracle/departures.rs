@@ -195,12 +195,11 @@ pub fn other_order(pair: &Pair, glyph: u16) -> bool {
 /// Whether 000 asserts a byte past a row of whole bytes that is not there, though every needed byte is: how many bytes
 /// more it wants.
 pub fn byte_past(pair: &Pair, d: &Drawing, rows: usize) -> Option<u64> {
-    let bitmaps = &pair.rec.bitmaps;
     if rows == 0 || d.width % 8 != 0 || !has_bitmap(&pair.rec, d.glyph) || !orders::usual(&pair.rec) {
         return None;
     }
     let (needed, asserted) = last_bytes(pair.ours, &pair.rec, d, rows);
-    let size = bitmaps.size as u64;
+    let size = pair.rec.bitmaps.size;
     (needed <= size && asserted >= size).then(|| asserted - size + 1)
 }
 

@@ -41,8 +41,8 @@ fn both(bytes: &[u8], tally: &mut Tally, then: Then) -> Verdict {
         hold((our.refusal, our.place) == (3, 0), "the port does not refuse many entries")?;
     } else if let Some(&(_, entry)) = short {
         // an entry before it can be refused too, but then 000 does not return
-        let at_it = our.refusal == 6 && our.place == entry;
-        let sooner = kind == Kind::Stopped && (5..=7).contains(&our.refusal) && our.place <= entry;
+        let at_it = our.refusal == 6 && our.place == entry as u64;
+        let sooner = kind == Kind::Stopped && (5..=7).contains(&our.refusal) && our.place <= entry as u64;
         hold(at_it || sooner || our.refusal == 4, "the port does not refuse a short table")?;
     }
     let departs = many || short.is_some();
@@ -58,7 +58,7 @@ fn both(bytes: &[u8], tally: &mut Tally, then: Then) -> Verdict {
         (Some(Ok(_)), _) => hold(departs, "000 loads, the port refuses"),
         (Some(Err(())), number) => hold((number, our.place) == (2, 0), "000 answers Err, the port not 2"),
         (None, 0) => hold(applying.iter().any(|(d, _)| d.stops_loading()), "the port loads, 000 does not return"),
-        (None, number) => hold(departing::may_refuse(bytes, number, our.place), "not a refusal of this font"),
+        (None, number) => hold(departing::may_refuse(bytes, number, our.place as usize), "not a refusal of this font"),
     }
 }
 
@@ -101,15 +101,16 @@ fn same_fields(pair: &Pair, tally: &mut Tally) -> Verdict {
     if departing::unit_shift(o) {
         tally.used(Departure::UnitShift);
     }
-    let in_place =
-        |table: &plain::Table, at: usize, data: usize| pair.twin() || table.at == at && table.data.start == data;
-    let sized = |table: &plain::Table, big: bool, count: u32, size: usize| {
-        table.big == big && table.count == count as usize && table.data.len == size
+    let in_place = |table: &plain::Table, at: u64, data: u64| {
+        pair.twin() || table.at as u64 == at && table.data.start as u64 == data
+    };
+    let sized = |table: &plain::Table, big: bool, count: u32, size: u64| {
+        table.big == big && table.count == count as usize && table.data.len as u64 == size
     };
     hold(sized(&t.props, o.props.big, o.props.count, o.props.size), "properties differ")?;
     hold(in_place(&t.props, o.props.records, o.props.strings), "the properties' places differ")?;
     let (size, in_usual_rows) = (o.bitmaps.size, pair.given == Given::UsualRows);
-    let size = if in_usual_rows { t.bitmaps.data.len } else { size };
+    let size = if in_usual_rows { t.bitmaps.data.len as u64 } else { size };
     hold(sized(&t.bitmaps, o.bitmaps.big, o.bitmaps.count, size), "bitmaps differ")?;
     hold(in_place(&t.bitmaps, o.bitmaps.offsets, o.bitmaps.bits), "the bitmaps' places differ")?;
     hold(sized(&t.names, o.names.big, o.names.count, o.names.size), "names differ")?;
@@ -124,7 +125,7 @@ fn same_fields(pair: &Pair, tally: &mut Tally) -> Verdict {
     hold(m.count == of.count as usize, "the metrics' count differs")?;
     if !pair.twin() {
         hold(m.compressed == of.compressed, "compression differs")?;
-        hold(m.at + if of.compressed { 0 } else { 2 } == of.records, "the metrics' place differs")?;
+        hold(m.at as u64 + if of.compressed { 0 } else { 2 } == of.records, "the metrics' place differs")?;
         hold(m.big.map_or(of.compressed, |big| big == of.big), "the metrics' byte order differs")?;
     }
     hold(same_accelerators(pair.theirs, &o.accel), "accelerators differ")
@@ -136,14 +137,14 @@ fn same_codes(pair: &Pair) -> Verdict {
     hold(t.big == o.big, "the codes' byte order differs")?;
     hold(t.char_mode == reading::is_char_mode(&pair.rec), "the code mode differs")?;
     hold((t.low2, t.low1) == (o.low2.into(), o.low1.into()), "the first codes differ")?;
-    let default = reading::u16_at(pair.ours, o.entries - 2, o.big);
+    let default = reading::u16_at(pair.ours, o.entries as usize - 2, o.big);
     hold(o.default_code == default, "the default code, which 000 does not keep, is not the table's")?;
-    hold(o.size as u64 == 2 * entries, "the port's entries have not two bytes each")?;
+    hold(o.size == 2 * entries, "the port's entries have not two bytes each")?;
     if pair.twin() {
         return hold(t.count as u64 == entries, "000 does not see all of the twin's entries");
     }
     hold((t.high2, t.high1) == (o.high2.into(), o.high1.into()), "the last codes differ")?;
-    hold(t.at == o.entries, "the entries' place differs")?;
+    hold(t.at as u64 == o.entries, "the entries' place differs")?;
     hold(t.count as u64 == entries / 2, "000 does not see half of the entries")
 }
 

@@ -1,7 +1,7 @@
 //! Rows in other orders than 000's, which has one-byte units, top bit leftmost. A row is units from its start, each a
 //! number in the table's byte order; its leftmost pixel is the top bit, or the lowest one.
 use crate::fonts::{four, word, Table, BIG, TOP};
-use crate::reading::u32_at;
+use crate::reading::{part, u32_at};
 use crate::structs::Record;
 
 /// the order of a bitmap table's rows; `unit` in bytes
@@ -95,8 +95,8 @@ fn bitmaps(rec: &Record, form: u32, offsets: &[u32], data: &[u8]) -> Table {
 
 fn parts<'a>(b: &'a [u8], rec: &Record) -> (Vec<u32>, &'a [u8]) {
     let t = &rec.bitmaps;
-    let offsets = (0..t.count as usize).map(|g| u32_at(b, t.offsets + 4 * g, t.big)).collect();
-    (offsets, &b[t.bits..t.bits + t.size])
+    let offsets = (0..t.count as usize).map(|g| u32_at(b, t.offsets as usize + 4 * g, t.big)).collect();
+    (offsets, part(b, t.bits, t.bits + t.size))
 }
 
 /// The bitmap table with its rows in 000's order. A glyph's units begin with its offset, so the data stand there once

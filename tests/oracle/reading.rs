@@ -22,6 +22,11 @@ pub fn u32_at(b: &[u8], i: usize, big: bool) -> u32 {
     }
 }
 
+/// the bytes from one place of a record up to another
+pub fn part(b: &[u8], from: u64, to: u64) -> &[u8] {
+    &b[from as usize..to as usize]
+}
+
 // ---- codes
 
 pub fn is_char_mode(rec: &Record) -> bool {
@@ -61,7 +66,8 @@ pub fn slot(rec: &Record, code: u32) -> Slot {
 
 /// the glyph of an entry
 pub fn entry(b: &[u8], rec: &Record, slot: u64) -> Option<u16> {
-    Some(u16_at(b, rec.codes.entries + 2 * slot as usize, rec.codes.big)).filter(|&glyph| glyph != 65_535)
+    let at = rec.codes.entries + 2 * slot;
+    Some(u16_at(b, at as usize, rec.codes.big)).filter(|&glyph| glyph != 65_535)
 }
 
 /// the glyph of a code
@@ -80,15 +86,15 @@ fn twelve_bytes(b: &[u8], at: usize, big: bool) -> Metrics {
 }
 
 /// a glyph's metrics, 12-byte ones from so many bytes before the record's place
-pub fn metrics(b: &[u8], rec: &Record, glyph: u16, sooner: usize) -> Option<Metrics> {
+pub fn metrics(b: &[u8], rec: &Record, glyph: u16, sooner: u64) -> Option<Metrics> {
     let m = &rec.metrics;
     if u32::from(glyph) >= m.count {
         return None;
     }
     if !m.compressed {
-        return Some(twelve_bytes(b, m.records - sooner + 12 * usize::from(glyph), m.big));
+        return Some(twelve_bytes(b, (m.records - sooner + 12 * u64::from(glyph)) as usize, m.big));
     }
-    let at = m.records + 5 * usize::from(glyph);
+    let at = (m.records + 5 * u64::from(glyph)) as usize;
     let [left, right, width, ascent, descent] = [0, 1, 2, 3, 4].map(|k| i16::from(b[at + k]) - 128);
     Some(Metrics { left, right, width, ascent, descent, attributes: 0 })
 }
@@ -134,14 +140,14 @@ pub fn rows_drawn(d: &Drawing, len: usize, stride: usize, scale: usize) -> usize
 /// place that 000 asserts to be there.
 pub fn last_bytes(b: &[u8], rec: &Record, d: &Drawing, rows: usize) -> (u64, u64) {
     let stride = d.width.div_ceil(8).next_multiple_of(rec.bitmaps.pad.into());
-    let offset = u32_at(b, rec.bitmaps.offsets + 4 * usize::from(d.glyph), rec.bitmaps.big);
+    let offset = u32_at(b, rec.bitmaps.offsets as usize + 4 * usize::from(d.glyph), rec.bitmaps.big);
     let row = u64::from(offset) + (rows as u64 - 1) * stride as u64;
     (if d.width == 0 { 0 } else { row + orders::needed(rec, d.width) }, row + d.width as u64 / 8)
 }
 
 /// whether so many rows of a glyph with a bitmap need a byte that is not there
 pub fn lacks_data(b: &[u8], rec: &Record, d: &Drawing, rows: usize) -> bool {
-    rows > 0 && last_bytes(b, rec, d, rows).0 > rec.bitmaps.size as u64
+    rows > 0 && last_bytes(b, rec, d, rows).0 > rec.bitmaps.size
 }
 
 pub fn has_bitmap(rec: &Record, glyph: u16) -> bool {

@@ -1,7 +1,7 @@
 //! The two sides, asked the same: 000, whose panics are caught, and the port.
 use crate::asked::{Call, Function::*};
 use crate::calls;
-use crate::structs::{CharCode, GlyphIndex, GlyphInfo, Metrics, Record};
+use crate::structs::{Bitmap, CharCode, GlyphIndex, GlyphInfo, Metrics, PageNumbers, Record};
 use original::plain::{self, Fields};
 use original::LoadedPCF;
 use std::panic::{catch_unwind, AssertUnwindSafe};
@@ -132,6 +132,9 @@ pub fn caught<T>(ask: impl FnOnce() -> T) -> Option<T> {
 
 pub const COLOUR: u32 = 0x00C0_104E;
 
+/// the port's one mode, which 000 does not have
+pub const PLAIN: u32 = 0;
+
 /// what a pixel is before the call: no two are the same
 pub fn before(i: usize) -> u32 {
     0x8000_0000 | i as u32
@@ -244,6 +247,12 @@ fn byte_before(i: usize) -> u8 {
     (i % 251) as u8 + 2
 }
 
+/// the numbers of a drawing as the port takes them; without a wrap it is the greatest number
+pub fn numbers(call: &Call) -> PageNumbers {
+    let [start, stride, scale] = [call.start, call.stride, call.scale].map(|n| n as u64);
+    PageNumbers { start, stride, scale, wrap: call.wrap.unwrap_or(u64::MAX), colour: COLOUR, mode: PLAIN }
+}
+
 pub fn our(bytes: &[u8], rec: Record, call: &Call) -> Our {
     let (code, glyph) = (CharCode(call.number), GlyphIndex(call.number as u16));
     let info = GlyphInfo {
@@ -253,24 +262,22 @@ pub fn our(bytes: &[u8], rec: Record, call: &Call) -> Our {
         pad_top: call.pad_top as u16,
         pad_left: call.pad_left as u16,
     };
-    let (start, stride, scale) = (call.start, call.stride, call.scale);
     let mut page = page_before(if call.function.draws() { call.len } else { 0 });
     let (refusal, place, values, rows) = match call.function {
         Load | Vet => panic!("these are compared apart"),
         Property => {
             let a = calls::property(bytes, rec, call.number);
-            let string = [a.string.start as u64, a.string.len as u64];
-            let name = [a.name.start as u64, a.name.len as u64];
-            let values = [name[0], name[1], a.is_string.into(), a.number.into(), string[0], string[1]];
+            let (name, string) = (a.name, a.string);
+            let values = [name.start, name.len, a.is_string.into(), a.number.into(), string.start, string.len];
             (a.refusal, a.place, values, [0, 0])
         }
         Glyph => {
-            let a = calls::glyph(bytes, rec, code);
+            let a = calls::glyph(bytes, rec, code, PLAIN);
             (a.refusal, a.place, first(&[a.glyph.0.into()]), [0, 0])
         }
         Name => {
             let a = calls::name(bytes, rec, glyph);
-            (a.refusal, a.place, first(&[a.name.start as u64, a.name.len as u64]), [0, 0])
+            (a.refusal, a.place, first(&[a.name.start, a.name.len]), [0, 0])
         }
         Metrics => {
             let a = calls::metrics(bytes, rec, glyph);
@@ -278,38 +285,37 @@ pub fn our(bytes: &[u8], rec: Record, call: &Call) -> Our {
         }
         Dimensions => {
             let a = calls::dimensions(bytes, rec);
-            (a.refusal, a.place, first(&[a.extent.height as u64, a.extent.width as u64]), [0, 0])
+            (a.refusal, a.place, first(&[a.extent.height, a.extent.width]), [0, 0])
         }
         PrepChar => {
-            let a = calls::prep_char(bytes, rec, code);
+            let a = calls::prep_char(bytes, rec, code, PLAIN);
             (a.refusal, a.place, of_info(&a.info), [0, 0])
         }
         DrawBitmap => {
-            let (width, height) = (call.width, call.height);
-            let a = calls::draw_bitmap(bytes, rec, glyph, width, height, &mut page, start, stride, scale, COLOUR);
+            let bitmap = Bitmap { glyph, width: call.width as u64, height: call.height as u64 };
+            let a = calls::draw_bitmap(bytes, rec, bitmap, &mut page, numbers(call));
             (a.refusal, a.place, [0; 6], [a.rows.drawn.into(), a.rows.dropped.into()])
         }
         DrawGlyph => {
-            let a = calls::draw_glyph(bytes, rec, info, &mut page, start, stride, scale, COLOUR);
+            let a = calls::draw_glyph(bytes, rec, info, &mut page, numbers(call));
             (a.refusal, a.place, [0; 6], [a.rows.drawn.into(), a.rows.dropped.into()])
         }
         DrawChar => {
-            let a = calls::draw_char(bytes, rec, code, &mut page, start, stride, scale, COLOUR);
+            let a = calls::draw_char(bytes, rec, code, &mut page, numbers(call));
             (a.refusal, a.place, of_info(&a.info), [a.rows.drawn.into(), a.rows.dropped.into()])
         }
         UnpackGlyph => {
             let mut stored: Vec<u8> = (0..call.len).map(byte_before).collect();
-            let a = calls::unpack_glyph(bytes, rec, info, &mut stored, start, stride);
+            let a = calls::unpack_glyph(bytes, rec, info, &mut stored, numbers(call));
             for i in (0..call.len).filter(|&i| stored[i] != byte_before(i)) {
                 page[i] = stored[i].into();
             }
             (a.refusal, a.place, [0; 6], [a.rows.into(), 0])
         }
         DrawString => {
-            let (text, wrap) = (&call.text, call.wrap.unwrap_or(u64::MAX));
-            let a = calls::draw_string(bytes, rec, text, &mut page, start, wrap, stride, scale, COLOUR);
-            (a.refusal, a.place, first(&[a.rows.height as u64]), [0, a.rows.dropped as u64])
+            let a = calls::draw_string(bytes, rec, &call.text, &mut page, numbers(call));
+            (a.refusal, a.place, first(&[a.rows.height]), [0, a.rows.dropped])
         }
     };
-    Our { refusal, place, values, rows, page }
+    Our { refusal, place: place as usize, values, rows, page }
 }

@@ -4,7 +4,7 @@ use crate::calls;
 use crate::compare::{as_in_usual_rows, hold, same, undrawn, with_more, wrong, Verdict};
 use crate::departures::{self as departing, Departure, Sight};
 use crate::reading::{self, rows_drawn, Drawing};
-use crate::sides::{our, their, untouched, Given, Kind, Our, Pair, Their};
+use crate::sides::{numbers, our, their, untouched, Given, Kind, Our, Pair, Their};
 use crate::tally::Tally;
 
 fn characters(call: &Call) -> impl Iterator<Item = (usize, char)> + '_ {
@@ -241,9 +241,8 @@ fn at_its_place(pair: &Pair, call: &Call, place: usize, tally: &mut Tally) -> Ve
 }
 
 fn dry_run(pair: &Pair, call: &Call, our_: &Our) -> Verdict {
-    let wrap = call.wrap.unwrap_or(u64::MAX);
-    let dry = calls::text_check(pair.ours, pair.rec, &call.text, call.len, call.start, wrap, call.stride, call.scale);
-    let rows = [dry.rows.height as u64, dry.rows.dropped as u64];
-    let same = (dry.refusal, dry.place) == (our_.refusal, our_.place) && rows == [our_.values[0], our_.rows[1]];
+    let dry = calls::text_check(pair.ours, pair.rec, &call.text, call.len as u64, numbers(call));
+    let rows = [dry.rows.height, dry.rows.dropped];
+    let same = (dry.refusal, dry.place) == (our_.refusal, our_.place as u64) && rows == [our_.values[0], our_.rows[1]];
     hold(same, "the dry run answers otherwise")
 }

@@ -1,7 +1,7 @@
 //! Twins: a font rewritten so that 000 should read in it what the port reads in the font itself.
 use crate::fonts::{accelerators, font, four, narrow_metrics, two, word, Table, BIG, COMPRESSED};
 use crate::orders;
-use crate::reading::{entries, is_char_mode, metrics};
+use crate::reading::{entries, is_char_mode, metrics, part};
 use crate::sides::{Given, Theirs};
 use crate::structs::{Metrics, Record};
 use original::plain::Fields;
@@ -17,7 +17,7 @@ fn form(big: bool) -> u32 {
 /// The code table with as many empty entries more: 000 takes the number of entries for that of bytes.
 fn doubled_codes(b: &[u8], rec: &Record) -> Option<Table> {
     let (codes, form) = (&rec.codes, form(rec.codes.big));
-    let mut bytes = b[codes.entries - 14..codes.entries + codes.size].to_vec();
+    let mut bytes = part(b, codes.entries - 14, codes.entries + codes.size).to_vec();
     let (at, last, more) = if is_char_mode(rec) {
         (6, codes.high2, entries(rec))
     } else {
@@ -25,7 +25,7 @@ fn doubled_codes(b: &[u8], rec: &Record) -> Option<Table> {
     };
     let last = u16::try_from(u64::from(last) + more).ok()?;
     bytes[at..at + 2].copy_from_slice(&two(form, last));
-    bytes.resize(bytes.len() + codes.size, 0xFF);
+    bytes.resize(bytes.len() + codes.size as usize, 0xFF);
     Some(Table { kind: 32, form, bytes })
 }
 
@@ -39,14 +39,14 @@ fn fits(m: &Metrics) -> bool {
 fn moved_metrics(b: &[u8], rec: &Record) -> Option<Table> {
     let (m, form) = (&rec.metrics, form(rec.metrics.big));
     if m.compressed {
-        let bytes = b[m.records - 6..m.records + 5 * m.count as usize].to_vec();
+        let bytes = part(b, m.records - 6, m.records + 5 * u64::from(m.count)).to_vec();
         return Some(Table { kind: 4, form: form | COMPRESSED, bytes: padded(bytes) });
     }
     let head = [&word(form)[..], &four(form, m.count)].concat();
     if m.count == 0 {
         return Some(Table { kind: 4, form, bytes: head });
     }
-    let records = &b[m.records..m.records + 12 * m.count as usize];
+    let records = part(b, m.records, m.records + 12 * u64::from(m.count));
     if records[..2] == head[6..8] {
         return Some(Table { kind: 4, form, bytes: [&head[..], &records[2..]].concat() });
     }
@@ -72,7 +72,7 @@ pub fn given(given: Given, b: &[u8], rec: &Record) -> Option<Vec<u8>> {
 /// None where there is no such font
 pub fn twin(b: &[u8], rec: &Record) -> Option<Vec<u8>> {
     let (from, to) = (rec.bitmaps.offsets - 8, rec.bitmaps.bits + rec.bitmaps.size);
-    with_bitmaps(b, rec, Table { kind: 8, form: 0, bytes: b[from..to].to_vec() })
+    with_bitmaps(b, rec, Table { kind: 8, form: 0, bytes: part(b, from, to).to_vec() })
 }
 
 pub fn with_bitmaps(b: &[u8], rec: &Record, bitmaps: Table) -> Option<Vec<u8>> {
@@ -88,7 +88,7 @@ pub fn with_bitmaps(b: &[u8], rec: &Record, bitmaps: Table) -> Option<Vec<u8>> {
         a.padding,
     ];
     let three = [a.font_ascent, a.font_descent, a.max_overlap];
-    let copied = |kind, from: usize, to: usize| Table { kind, form: 0, bytes: b[from - 8..to].to_vec() };
+    let copied = |kind, from: u64, to: u64| Table { kind, form: 0, bytes: part(b, from - 8, to).to_vec() };
     let tables = [
         copied(1, rec.props.records, rec.props.strings + rec.props.size),
         accelerators(2, a.format, flags, three, &a.minbounds, &a.maxbounds),

@@ -20,13 +20,13 @@ fn character_at(text: &[u8], i: usize) -> Option<char> {
 pub fn steps(text: &[u8], tally: &mut Tally) -> Verdict {
     for i in 0..text.len() + 2 {
         tally.utf8 += 1;
-        let a = calls::utf8_step(text, i);
+        let a = calls::utf8_step(text, i as u64);
         let got = (a.refusal, a.place, a.found, a.code.0, a.next);
         let expected = match i < text.len() {
             false => (0, 0, false, 0, 0),
             true => match character_at(text, i) {
-                None => (19, i, false, 0, 0),
-                Some(c) => (0, 0, true, c as u32, i + c.len_utf8()),
+                None => (19, i as u64, false, 0, 0),
+                Some(c) => (0, 0, true, c as u32, (i + c.len_utf8()) as u64),
             },
         };
         hold(got == expected, &format!("step at {i} of {text:02X?}: {got:?}, Rust's own decoder {expected:?}"))?;

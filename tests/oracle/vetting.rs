@@ -6,13 +6,13 @@ use crate::compare::{hold, Verdict};
 use crate::departures;
 use crate::orders;
 use crate::reading::{self, Drawing, Slot};
-use crate::sides::{their, Given, Kind, Pair};
+use crate::sides::{their, Given, Kind, Pair, PLAIN};
 use crate::tally::Tally;
 
 const MOST_PIXELS: usize = 1 << 20;
 
 /// the refusal's number and place, 0 and 0 where the font passes; None where it takes too large a page to tell
-fn expected(pair: &Pair) -> Option<(u32, usize)> {
+fn expected(pair: &Pair) -> Option<(u32, u64)> {
     if orders::refused(&pair.rec) {
         return Some((13, 0));
     }
@@ -24,7 +24,7 @@ fn expected(pair: &Pair) -> Option<(u32, usize)> {
     }
     for number in 0..pair.fields.props.count {
         if ask(Property, number as u32).kind == Kind::Stopped {
-            return Some((18, number));
+            return Some((18, number as u64));
         }
     }
     // 000 panics over codes below the first
@@ -34,7 +34,7 @@ fn expected(pair: &Pair) -> Option<(u32, usize)> {
         if found.kind == Kind::Returned {
             let number = of_character(pair, code, found.values[0] as u16)?;
             if number != 0 {
-                return Some((number, code as usize));
+                return Some((number, code.into()));
             }
         }
     }
@@ -80,7 +80,7 @@ pub fn compare(pair: &Pair, tally: &mut Tally) -> Verdict {
     if orders::other(&pair.rec) && pair.given != Given::UsualRows {
         return Ok(()); // 000 draws nothing of it; it is asked again with the rows in the usual order
     }
-    let our = calls::vet(pair.ours);
+    let our = calls::vet(pair.ours, PLAIN);
     let of_a_surrogate = our.refusal >= 10 && (0xD800..=0xDFFF).contains(&our.place);
     let Some(expected) = expected(pair).filter(|_| !of_a_surrogate) else {
         tally.not_compared("000 cannot be asked for what decides in vetting");

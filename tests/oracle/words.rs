@@ -1,7 +1,7 @@
 //! Answers in words, for differences and for the listed departures.
 use crate::asked::{Call, Function, Function::*};
 use crate::calls;
-use crate::sides::{before, caught, our, their, Aligned, Given, Kind, Theirs, Values};
+use crate::sides::{before, caught, our, their, Aligned, Given, Kind, Theirs, Values, PLAIN};
 use crate::twins;
 use original::plain;
 
@@ -86,7 +86,7 @@ pub fn of_port(bytes: &[u8], call: &Call) -> String {
         );
     }
     if call.function == Vet {
-        let vetted = calls::vet(bytes);
+        let vetted = calls::vet(bytes, PLAIN);
         return format!("vetting answers {} at {}", vetted.refusal, vetted.place);
     }
     let answer = our(bytes, loaded.rec, call);

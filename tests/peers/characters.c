@@ -102,7 +102,8 @@ static bool same_bitmap(const struct font *f, struct page ours, size_t left, siz
 static struct page drawn_char(const struct font *f, uint32_t code, size_t lines, size_t stride)
 {
     struct page p = blank(lines, stride);
-    thk_char_answer ours = thk_draw_char(FONT(f), (thk_char_code){code}, p.pixels, lines * stride, 0, stride, 1, SET);
+    thk_page to = drawable(p);
+    thk_char_answer ours = thk_draw_char(FONT(f), (thk_char_code){code}, &to);
 
     same(f, ours.refusal, bit_order(f), "refusal of drawing code %ld", (long)code);
     if (!ours.refusal)
@@ -114,13 +115,14 @@ static struct page unpacked(const struct font *f, uint32_t code, thk_glyph_info 
 {
     struct page p = blank(lines, stride);
     uint8_t *bytes = malloc(lines * stride);
+    thk_cells cells = {.bytes = bytes, .len = lines * stride, .stride = stride};
     thk_unpack_answer ours;
     size_t i;
 
     if (!bytes)
         fail("no memory");
     memset(bytes, BLANK, lines * stride);
-    ours = thk_unpack_glyph(FONT(f), info, bytes, lines * stride, 0, stride);
+    ours = thk_unpack_glyph(FONT(f), info, &cells);
     same(f, ours.refusal, bit_order(f), "refusal of unpacking code %ld", (long)code);
     if (!ours.refusal)
         same(f, ours.rows, f->face->glyph->bitmap.rows, "rows unpacked of code %ld", (long)code);
@@ -134,7 +136,7 @@ bool character(struct font *f, uint32_t code)
 {
     FT_UInt index = FT_Get_Char_Index(f->face, code);
     FT_GlyphSlot slot = loaded(f, index);
-    thk_info_answer placed = thk_prep_char(FONT(f), (thk_char_code){code});
+    thk_info_answer placed = thk_prep_char(FONT(f), (thk_char_code){code}, THK_PLAIN);
     thk_glyph_info info = placed.info;
     size_t box, whole, left, top, lines, stride;
     bool right, bad;

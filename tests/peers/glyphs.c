@@ -25,8 +25,8 @@ static void bitmap(struct font *f, thk_glyph_index number, const FT_Bitmap *of)
 {
     size_t wide = of->width ? of->width : 1;
     struct page page = blank(of->rows, wide), peers = blank(of->rows, wide);
-    thk_rows_answer drawn =
-        thk_draw_bitmap(FONT(f), number, of->width, of->rows, page.pixels, page.lines * wide, 0, wide, 1, SET);
+    thk_page to = drawable(page);
+    thk_rows_answer drawn = thk_draw_bitmap(FONT(f), (thk_bitmap){number, of->width, of->rows}, &to);
     bool right = same(f, drawn.refusal, bit_order(f), "refusal of the bitmap of glyph %ld", (long)number.value);
 
     if (drawn.refusal) {
@@ -69,7 +69,7 @@ thk_glyph_index copied(const struct font *f)
 
     if (row < c->low1 || row > c->high1 || column < c->low2 || column > c->high2)
         code = (uint32_t)c->low1 << 8 | c->low2;
-    found = thk_glyph(FONT(f), (thk_char_code){code});
+    found = thk_glyph(FONT(f), (thk_char_code){code}, THK_PLAIN);
     if (found.refusal == THK_DONE && code == c->default_code)
         count.defaults++;
     else

@@ -48,6 +48,14 @@ struct page blank(size_t lines, size_t stride)
     return p;
 }
 
+thk_page drawable(struct page p)
+{
+    thk_page made = thk_page_of(p.pixels, p.lines * p.stride, p.stride);
+
+    made.colour = SET;
+    return made;
+}
+
 static int bit(const FT_Bitmap *of, size_t row, size_t column)
 {
     return of->buffer[row * (size_t)of->pitch + column / 8] >> (7 - column % 8) & 1;

@@ -36,7 +36,7 @@ static void codes(struct font *f)
     size_t n = 0;
 
     for (code = 0; code < CODES + BEYOND; code++) {
-        thk_glyph_answer ours = thk_glyph(FONT(f), (thk_char_code){code});
+        thk_glyph_answer ours = thk_glyph(FONT(f), (thk_char_code){code}, THK_PLAIN);
         FT_UInt peers = FT_Get_Char_Index(f->face, code);
 
         if (!same(f, ours.refusal, peers ? THK_DONE : THK_NO_GLYPH, "refusal of the glyph of code %ld", (long)code))

@@ -38,7 +38,7 @@ struct font {
     uint64_t peers;        /* a digest of FreeType's bitmaps */
 };
 
-#define FONT(f) (f)->bytes, (f)->len, (f)->rec
+#define FONT(f) (f)->bytes, (f)->len, &(f)->rec
 
 #define COUNTED(C)                                                                                                     \
     C(fonts) C(neither) C(long_metrics) C(padded_to_8) C(usual) C(bounds) C(vetted) C(refused_11) C(refused_13)        \
@@ -73,6 +73,9 @@ __attribute__((format(printf, 4, 5)))
 bool same(const struct font *f, long long ours, long long peers, const char *what, ...);
 
 struct page blank(size_t lines, size_t stride);
+
+/* The page as the library takes it: drawn on from its first pixel on, at scale 1, in colour SET, without wrapping. */
+thk_page drawable(struct page p);
 
 /* Colours FreeType's bitmap on a page, but for columns from `cut` on. */
 void put(struct page p, const FT_Bitmap *of, size_t top, size_t left, size_t cut);

@@ -12,10 +12,10 @@ void accelerators(const struct font *f)
     const thk_accelerators *a = &f->rec.accel;
     const FT_Size_Metrics *m = &f->face->size->metrics;
 
-    same(f, a->fontAscent * 64LL, m->ascender, "64 times the font's ascent");
-    same(f, a->fontDescent * -64LL, m->descender, "64 times the font's descent, negative");
+    same(f, a->font_ascent * 64LL, m->ascender, "64 times the font's ascent");
+    same(f, a->font_descent * -64LL, m->descender, "64 times the font's descent, negative");
     same(f, a->maxbounds.width * 64LL, m->max_advance, "64 times the bounds' width");
-    same(f, a->fontAscent + a->fontDescent, f->face->available_sizes[0].height, "the line's height");
+    same(f, a->font_ascent + a->font_descent, f->face->available_sizes[0].height, "the line's height");
 }
 
 /* A part of the font's bytes as a string of C. */
@@ -96,7 +96,7 @@ void bounds(const struct font *f)
  * has bounds that hold. */
 void vetting(const struct font *f)
 {
-    thk_font_answer ours = thk_vet(f->bytes, f->len);
+    thk_font_answer ours = thk_vet(f->bytes, f->len, THK_PLAIN);
     uint32_t expected = bit_order(f);
     long long place = 0;
 
@@ -128,7 +128,7 @@ void names(const struct font *f, char *lines)
         next = end + 1;
         *end = 0;
         name++;
-        thk_glyph_answer found = thk_glyph(FONT(f), (thk_char_code){(uint32_t)code});
+        thk_glyph_answer found = thk_glyph(FONT(f), (thk_char_code){(uint32_t)code}, THK_PLAIN);
         thk_name_answer ours = thk_name(FONT(f), found.glyph);
         if (same(f, found.refusal, 0, "refusal of the glyph of code %ld", code)
             && same(f, ours.refusal, 0, "refusal of the name of code %ld", code)) {

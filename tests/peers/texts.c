@@ -26,6 +26,7 @@ void text(const struct font *f, const uint32_t *codes, size_t n)
     size_t len = 0, wide = 1, high = 0, x = 0, k, ascent = (size_t)f->rec.accel.maxbounds.ascent;
     thk_text_answer drawn;
     struct page page, peers;
+    thk_page to;
     FT_GlyphSlot slot;
 
     for (k = 0; k < n; k++) {
@@ -42,7 +43,8 @@ void text(const struct font *f, const uint32_t *codes, size_t n)
             slot->bitmap.width);
         x += (size_t)slot->advance.x / 64;
     }
-    drawn = thk_draw_string(FONT(f), given, len, page.pixels, page.lines * wide, 0, THK_NO_WRAP, wide, 1, SET);
+    to = drawable(page);
+    drawn = thk_draw_string(FONT(f), given, len, &to);
     if (same(f, drawn.refusal, 0, "refusal of the text from code %ld on", (long)codes[0])
         & same(f, (long long)drawn.rows.dropped, 0, "rows dropped of the text from code %ld on", (long)codes[0])
         & same_pages(f, page, peers, 0, 0, "the text from code", codes[0])) {
