@@ -6,6 +6,7 @@ from command.script import expect, run, store
 from command.shows import MOST_SHOWN, drawn_by_model
 from common import fail
 from dump import make
+from exports.header import c_words
 from pcf.font_f import two_digits
 
 
@@ -36,16 +37,16 @@ def not_shown(folder):
         fail("the model does not refuse %s with %d at %d" % (text, number, place))
 
     for scale in (0, 65, 4294967295):
-        refused("scale %d" % scale, "refused 15: a number outside its limits", "--scale", str(scale), "12")
-    beyond = "refused 16: a pixel to colour lies beyond the panel (at byte %d of the text)"
+        refused("scale %d" % scale, "refused 15: %s\n" % c_words()[15], "--scale", str(scale), "12")
+    beyond = "refused 16: " + c_words()[16] + " (at byte %d of the text)"
     refused_by_model(16, 0, b"0", 6, 4, 2, None)
     refused("beyond the panel", beyond % 0, "0", "--font=f.pcf", "--scale=2", "--width=6", "--height=4", "--wrap=none")
     refused_by_model(16, 1, b"10", 6, 6, 2, None)
     refused("beyond the panel, later", beyond % 1, "10", "--font=f.pcf", "--scale=2", "--width=6", "--height=6",
             "--wrap=none")
-    refused("not UTF-8", "refused 19: the text has over 65,535 bytes or is not UTF-8 (at byte 2 of", b"12\xff3")
+    refused("not UTF-8", "refused 19: %s (at byte 2 of" % c_words()[19], b"12\xff3")
     refused("a cut character", "(at byte 3 of the text)", b"21 \xc2")
-    refused("too long", "refused 19: the text has over 65,535 bytes or is not UTF-8 (at byte 0 of", "1" * 65536)
+    refused("too long", "refused 19: %s (at byte 0 of" % c_words()[19], "1" * 65536)
     refused("much too long", "refused 19", "1" * 100000)
     seen = set()
     for name, font in make.font_files().items():
@@ -57,10 +58,8 @@ def not_shown(folder):
             model.vet(font)
             fail("%s is not refused" % name)
         except model.Refused as r:
-            said = "refused %02d: " % r.number, " (%s)\n" % (standing(r) + name)
-        got = run("show", "--font", store(folder, name, font), "12", folder=folder)
-        expect(name, got, 1, b"", said[0])
-        expect(name, got, 1, b"", said[1])
+            said = "refused %02d: %s (%s)\n" % (r.number, c_words()[r.number], standing(r) + name)
+        expect(name, run("show", "--font", store(folder, name, font), "12", folder=folder), 1, b"", said)
 
 
 def not_asked(folder):

@@ -200,8 +200,9 @@ def answered():
 
 
 def exported():
-    """docs/CALLS.md has each function of the header once beside the call that it is"""
-    declared = re.findall(r"^thk_\w+ (thk_\w+)\(", code.read("include", "thalluskin.h"), re.M)
+    """docs/CALLS.md has each function of the header that answers once beside the call that it is"""
+    inline = r"^static inline (?:thk_\w+_answer|uint32_t) (thk_\w+)\("
+    declared = re.findall(inline, code.read("include", "thalluskin.h"), re.M)
     tables = [table for table in pages.tables(pages.CALLS) if "C" in table.head]
     told = [name for table in tables for _, row in table.rows for _, name in pages.names(row[table.head.index("C")])]
     for name in sorted({*declared, *told}):

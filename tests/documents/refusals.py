@@ -33,7 +33,7 @@ class Orders:
         calls, crate = [], None
         for _, name in pages.names(first):
             m = re.match(r"(?:(\w+)::)?(\w+)", name)
-            crate = {"Font": "font", None: "thalluskin" if m[2].startswith("thk_") else crate}.get(m[1], m[1])
+            crate = {"Font": "font", None: "thalluskin" if m[2].startswith("thalluskin_") else crate}.get(m[1], m[1])
             calls.append((crate, m[2]))
         for place, call in enumerate(calls):
             if call in self.cells:
@@ -76,11 +76,11 @@ def header_orders():
     """the same of the C header, from the comment before each function"""
     orders = Orders("include/thalluskin.h", None)
     text = code.read(orders.page)
-    for m in re.finditer(r"/\*((?:(?!\*/).)*)\*/\n\w+ (thk_\w+)\(", text, re.S):
+    for m in re.finditer(r"/\*((?:(?!\*/).)*)\*/\nstatic inline thk_\w+_answer (thk_\w+)\(", text, re.S):
         told = re.sub(r"\s+(?:\* )?", " ", m[1]).rpartition("Refused ")[2]
         told = told.replace("as that", "as " + "".join(re.findall(r"thk_\w+", m[1])[:1]))
-        told = re.sub(r"as (thk_\w+)", r"as `\1`", told)
-        orders.row(text[:m.start(2)].count("\n") + 1, f"`{m[2]}`", told)
+        told = re.sub(r"as thk_(\w+)", r"as `thalluskin_\1`", told)
+        orders.row(text[:m.start(2)].count("\n") + 1, f"`{m[2].replace('thk_', 'thalluskin_')}`", told)
     return orders
 
 
@@ -164,7 +164,7 @@ def proved(known):
             yield f"{known.page}:{line}: the theorem on {'::'.join(call)} does not say that 6 is the record's test"
 
 
-def told_numbers(known):
+def told_numbers():
     """each place that tells refusals by number, with the numbers it has and those it has to have"""
     every, library = list(range(1, LAST + 1)), [n for n in range(1, LAST + 1) if n != DUMPS]
     tables = [t for t in pages.tables(pages.CALLS) if t.head[0] == "No"]
@@ -172,15 +172,14 @@ def told_numbers(known):
     rows = [row[0] for t in pages.tables(pages.PROMISES) if t.section == "Refusal numbers" for _, row in t.rows]
     parts = [part for row in rows for part in row.split("; ")]
     yield pages.PROMISES, [int(m[1]) for m in map(re.compile(r"(\d+) [a-z]").match, parts) if m], every
-    header = re.findall(r"^ *THK_(\w+) = (\d+)\b", code.read("include/thalluskin.h"), re.M)
+    text = code.read("include/thalluskin.h")
+    header = re.findall(r"^ *THK_(\w+) = (\d+)\b", text, re.M)
     yield "include/thalluskin.h", [int(n) for _, n in header], [0] + library
+    yield "include/thalluskin.h, words", re.findall(r"^ *case THK_(\w+):$", text, re.M), [name for name, _ in header]
     refusal = code.read("bindings/rust/src/refusal.rs")
     constants = re.findall(r"^ *pub const (\w+): u32 = (\d+);", refusal, re.M)
     yield "bindings/rust/src/refusal.rs", constants, header[1:]
     yield "bindings/rust/src/refusal.rs, reasons", re.findall(r"Refusal::(\w+) =>", refusal), [c for c, _ in constants]
-    met = known.order(("vet", "vet")) + known.order(("text", "draw_string"))
-    meaning = re.search(r"^meaning\(\) \{(.*?)^\}", code.read("thalluskin"), re.M | re.S)[1]
-    yield "thalluskin, meaning", [int(n) for n in re.findall(r"^ *(\d\d)\) echo", meaning, re.M)], sorted(set(met))
 
 
 def differing(has, must):
@@ -190,11 +189,11 @@ def differing(has, must):
 
 def check():
     known, calls, header = Orders(pages.PROMISES, "Function"), Orders(pages.CALLS, "Call"), header_orders()
-    exported = {call for call in known.cells if call[0] == "thalluskin"}
+    exported = {call for call in known.cells if call[0] == "thalluskin" and known.order(call)}
     faults = list(public(known)) + list(recorded(known)) + list(proved(known))
     faults += [*compare(known, calls, known.first | set(calls.cells)), *listed(known, calls)]
     faults += compare(known, header, exported | set(header.cells))
-    numbers = list(told_numbers(known))
+    numbers = list(told_numbers())
     faults += [f"{place}: refusals {differing(has, must)}" for place, has, must in numbers if has != must]
     faults += dict.fromkeys(known.faults + calls.faults + header.faults)
     counts = {
