@@ -8,11 +8,12 @@ mod RecordTest
 mod Refusals
 mod DrawingRefusals
 mod ExportedRefusals
-mod UnknownMode
+mod ExportedModes
 mod Exported
 mod Vetting
 mod VettingRefuses
 mod VettingSaid
+mod SharedPlaces
 mod Coloured
 mod ByRule
 mod Drawing

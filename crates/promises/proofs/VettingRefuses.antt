@@ -199,7 +199,7 @@ module _ (s : List ℕ) (rec : Record) (fits : recordFits (length s) rec ≡ tru
         before = λ i h. good-property-of i (omega (arith, h, w .below)) (w .earlier i (omega arith) h);
       }
 
-  fails-property : (n place : ℕ) → PropertyFails s rec n place → IsFirst (propFault s rec) 0 (rec .props .count) n place
+  pub fails-property : (n place : ℕ) → PropertyFails s rec n place → IsFirst (propFault s rec) 0 (rec .props .count) n place
   fails-property n place f =
       let fault = propFault s rec place in
       record {

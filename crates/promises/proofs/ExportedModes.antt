@@ -1,5 +1,5 @@
--- An exported function that takes a page draws in mode 0 with the page's own line length; in an unknown mode it is refused, 6 for a record
--- that does not fit the bytes, else 15.
+-- What the exported functions do in a mode: in mode 0 they are the library's, a page with its own line length; in an unknown one they are
+-- refused, 6 for a record that does not fit the bytes, else 15.
 use mathlib.Core.Path.{_≡_, refl}
 use mathlib.Core.Bool.{true, false}
 use mathlib.Core.List.{List}
@@ -7,14 +7,18 @@ use Prim.Native.Nat.{ℕ}
 use lib.Dec.{leb}
 use lib.ListN.{length}
 use Rattle.reads.proofs.Tests.{split}
-use Rattle.tables.specs.Fits.{recordFits, ladder}
+use Rattle.tables.specs.Fits.{recordFits, guarded, ladder}
 use Rattle.tables.specs.declared.Record.{Record}
+use Rattle.lookup.specs.Lookup.{glyphOf, getGlyph}
+use Rattle.lookup.specs.declared.Found.{Found}
 use Rattle.bitmaps.specs.Place.{placeAt}
 use Rattle.bitmaps.specs.Limits.{okPlace}
 use Rattle.bitmaps.specs.Draw.{bitmapReady, drawBitmap}
 use Rattle.bitmaps.specs.declared.Drawn.{Drawn}
 use Rattle.bitmaps.specs.declared.Unpacked.{Unpacked}
+use Rattle.place.specs.Info.{preparedIn, prepChar}
 use Rattle.place.specs.declared.GlyphInfo.{GlyphInfo}
+use Rattle.place.specs.declared.Prepared.{Prepared}
 use Rattle.glyphs.specs.Glyph.{glyphReady, drawGlyph}
 use Rattle.glyphs.specs.Char.{charReady, drawChar}
 use Rattle.glyphs.specs.Unpack.{unpackGlyph}
@@ -26,6 +30,14 @@ use Rattle.thalluskin.specs.Drawing.{placeOf}
 use Rattle.thalluskin.specs.Texts.{layoutOf}
 use Rattle.thalluskin.specs.declared.PageNumbers.{PageNumbers}
 use Rattle.promises.specs.Exported.{unknownMode}
+
+pub glyph-plain : (s : List ℕ) (rec : Record) (code : ℕ) → guarded Found.Refused s rec (isKnown 0) (glyphOf s (rec .codes) code) ≡ getGlyph s rec code
+unfolding getGlyph
+glyph-plain s rec code = refl
+
+pub prep-char-plain : (s : List ℕ) (rec : Record) (code : ℕ) → guarded Prepared.Refused s rec (isKnown 0) (preparedIn s rec code) ≡ prepChar s rec code
+unfolding prepChar
+prep-char-plain s rec code = refl
 
 pub stride-in-known : (page : PageNumbers) → isKnown (page .mode) ≡ true → strideOf page ≡ page .stride
 unfolding strideOf
