@@ -80,11 +80,11 @@ enum {
 };
 
 /* The limits of what calls take; 15 refuses a number past them, and 19 a longer text. */
-#define THK_MAX_STRIDE 65535 /* and at least 1 */
-#define THK_MAX_SCALE 64 /* and at least 1 */
-#define THK_MAX_START 2147483647
-#define THK_MAX_BOX 32767 /* a given width, height or pad */
-#define THK_MAX_TEXT 65535 /* bytes */
+#define THK_MAX_STRIDE UINT64_C(65535) /* and at least 1 */
+#define THK_MAX_SCALE UINT64_C(64) /* and at least 1 */
+#define THK_MAX_START UINT64_C(2147483647)
+#define THK_MAX_BOX UINT64_C(32767) /* a given width, height or pad */
+#define THK_MAX_TEXT UINT64_C(65535) /* bytes */
 
 /* For `wrap`: lines end at newlines alone. */
 #define THK_NO_WRAP UINT64_MAX

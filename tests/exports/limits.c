@@ -33,7 +33,7 @@ static uint32_t refusal(thk_page page, uint64_t text_len)
     do {                                                              \
         thk_page within = small(), past = small();                    \
         within.field = (most);                                        \
-        past.field = (uint64_t)(most) + 1;                            \
+        past.field = (most) + 1;                                      \
         expect(#field " within", refusal(within, 1), THK_DONE);       \
         expect(#field " past", refusal(past, 1), THK_BAD_ARGUMENT);   \
         tried++;                                                      \
