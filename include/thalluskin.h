@@ -3,21 +3,24 @@
  *
  *     cc program.c -I include target/staticlib/libthalluskin.a
  *
- * `rt staticlib thalluskin` makes the archive, for x86-64 Linux. It needs nothing but memcpy and memset. It holds no
- * state, allocates nothing and keeps no pointer, so that any number of threads may call it. One header serves every
- * processor that has its bytes in little-endian order and puts a uint64_t at a multiple of 8, those of 32 bits too.
+ * `rt staticlib thalluskin` makes the archive, for x86-64 Linux. It needs SSE registers, memcpy and memset, and nothing
+ * else. It holds no state, allocates nothing and keeps no pointer, so that any number of threads may call it. One header
+ * serves every processor that has its bytes in little-endian order and puts a uint64_t at a multiple of 8, those of 32
+ * bits too.
  *
  * A font is the bytes of its file, which stay the caller's, and the record that thk_load or thk_vet gives for them;
  * each call takes both. Every call has an answer for every font, record, text and number, a record that was made up
  * among them. What the caller has to see to, because no callee can:
  *
  *   - a pointer and its length are that many bytes or pixels that may be read, and for a buffer also written; where
- *     the length is 0 nothing is read there, and the pointer may be NULL; a pointer to a record or a page is no NULL;
+ *     the length is 0 nothing is read there, and the pointer may be NULL; a pointer to a record, a page or cells is
+ *     not NULL;
  *   - a buffer of pixels stands at an address that is a multiple of 4;
- *   - a buffer overlaps neither the font's bytes nor the text, and nobody else writes to any of them during the call;
+ *   - a buffer overlaps neither the font's bytes nor the text nor the record, and nobody else writes to any of them
+ *     during the call;
  *   - a bool in a record is 0 or 1, as C makes it;
- *   - the stack has room. On x86-64 a call takes at most, in bytes, its return address included and memcpy and memset
- *     not:
+ *   - the stack has room. On x86-64 a call takes at most, in bytes, with its return address and what it stores below
+ *     the stack's pointer, as Linux programs may, and without memcpy and memset:
  *
  *         thk_vet 3,700; thk_load 3,300
  *         thk_draw_string 1,300; thk_text_check 1,300
@@ -29,7 +32,7 @@
  * The archive has no tables to unwind its frames by: it throws nothing and calls nothing of its caller's, so that no
  * exception passes through it. A debugger that stops inside it may not see who called.
  *
- * Every answer begins with `refusal`, which is 0 or the number of the reason why there is no result, and `place`,
+ * Every answer but the version begins with `refusal`, 0 or the number of the reason why there is no result, and `place`,
  * which says where: for THK_BAD_OFFSET, THK_BAD_TABLE and THK_CODE_BOUNDS in loading the directory entry from 0; in
  * vetting the property or the code; in a text the byte where the refusing character starts; for THK_BAD_TEXT the first
  * byte at which no character starts, or 0 where the text is too long; otherwise 0. Where `refusal` is not 0 every
@@ -49,8 +52,9 @@
 extern "C" {
 #endif
 
-/* The version of this header, 0.1.0: 10,000 times the first number, 100 times the second, and the third. It changes
- * where a struct or a function does; thk_version answers that of the archive, which has to be the same. */
+/* The version of this header, 0.1.0: 10,000 times the first number, 100 times the second, and the third. From
+ * the first release on it changes where a struct or a function does; thk_version answers that of the archive, which has
+ * to be the same. */
 #define THK_VERSION 100
 
 enum {
@@ -89,7 +93,7 @@ enum {
 /* For `wrap`: lines end at newlines alone. */
 #define THK_NO_WRAP UINT64_MAX
 
-/* For `mode`: as the rule book has it. Other modes are to come; until then every other number is refused (15). */
+/* For `mode`: drawing as this header describes it. Other modes are to come; until then 15 refuses every other number. */
 #define THK_PLAIN 0
 
 /* A character's code and a glyph's number in its font: two types, so that neither is taken for the other. */
@@ -196,7 +200,9 @@ typedef struct {
 /* ---- What calls take. */
 
 /* A page to draw on, and how: `len` pixels in lines of `stride`; where drawing begins; how large a bit is drawn; where
- * lines of a text wrap; the colour; the mode. thk_page_of gives one that is set but for what a program changes. */
+ * lines of a text wrap; the colour; the mode. Begin with thk_page_of, which sets every field. In a struct that is set by
+ * hand what is left out is 0: a stride or scale of 0 is refused (15), but with a `wrap` of 0 every letter begins a new
+ * line, and colour 0 may be that of the page. */
 typedef struct {
     uint32_t *pixels;
     uint64_t len;
@@ -360,9 +366,10 @@ typedef struct {
     uint64_t next;
 } thk_step_answer;
 
-/* ---- The archive's own functions, which the ones below call. On x86-64 a struct goes by value. Elsewhere, and where
- * THK_LENT is defined, the answer goes where the first argument points, and a struct is lent by a pointer: how a struct
- * goes by value is each processor's own affair. Programs have no need of them. */
+/* ---- The archive's own functions, which the ones below call. On x86-64 a struct goes by value, and the archive of
+ * `rt staticlib` has these alone. Elsewhere, and where THK_LENT is defined, the answer goes where the first argument
+ * points, and a struct is lent by a pointer: how a struct goes by value is each processor's own affair. Programs have no
+ * need of them. */
 #if defined(__BYTE_ORDER__) && __BYTE_ORDER__ != __ORDER_LITTLE_ENDIAN__
 #error "thalluskin is for processors with little-endian byte order"
 #endif
@@ -526,14 +533,18 @@ static inline thk_accel_answer thk_accel(const uint8_t *font, uint64_t font_len,
     THK_ANSWER(thk_accel_answer, accel, font, font_len, THK_GIVE(rec));
 }
 
-/* The height and width of the font's maximum bounds, as its file states them. A glyph may be wider or reach lower;
- * thk_text_check says what a text needs. Refused 6, 11. */
+/* The height and width of the font's maximum bounds, as its file states them. A glyph may be wider or reach lower, and
+ * a text's lines have this height all the same; that a text fits a page is said by thk_text_check, whose `dropped` is 0
+ * then. 11 is for an ascent or width below 0, or a height, which is ascent and descent together, outside 0 to 32,767.
+ * Refused 6, 11. */
 static inline thk_extent_answer thk_dimensions(const uint8_t *font, uint64_t font_len, const thk_record *rec)
 {
     THK_ANSWER(thk_extent_answer, dimensions, font, font_len, THK_GIVE(rec));
 }
 
-/* A character's glyph, placed. Refused 6, 15 for an unknown mode, 9, 10, 11. */
+/* A character's glyph, placed. 11 is for a width, ascent or left bearing below 0, a height, which is ascent and descent
+ * together, outside 0 to 32,767, or an ascent above that of the maximum bounds. Refused 6, 15 for an unknown mode, 9, 10,
+ * 11. */
 static inline thk_info_answer thk_prep_char(const uint8_t *font, uint64_t font_len, const thk_record *rec,
                                             thk_char_code code, uint32_t mode)
 {
@@ -654,8 +665,9 @@ static inline thk_unpack_answer thk_unpack_glyph(const uint8_t *font, uint64_t f
  * A carriage return and a code without a glyph are skipped. A glyph without a bitmap is no refusal: it draws nothing
  * and drops nothing, but wraps and moves the pen as any other. The answer's height is y and one line height. */
 
-/* Draws a text. Refused 6, 15, 19, 11 of the bounds; then the first character with a refusal decides: 10, 11, 13, 14,
- * 16. */
+/* Draws a text. With a font that was not vetted, 11 at 0 is of the bounds if thk_dimensions is refused 11, else of the
+ * first character's glyph. Refused 6, 15, 19, 11 of the bounds; then the first character with a refusal decides: 10, 11,
+ * 13, 14, 16. */
 static inline thk_text_answer thk_draw_string(const uint8_t *font, uint64_t font_len, const thk_record *rec,
                                               const uint8_t *text, uint64_t text_len, const thk_page *page)
 {
@@ -685,7 +697,7 @@ static inline thk_step_answer thk_utf8_step(const uint8_t *text, uint64_t text_l
 #undef THK_STRUCT
 #undef THK_GIVE
 
-/* ---- The layout that the archive has. C99 has no way to say it. */
+/* ---- The layout that the archive has. C99 has no assertions, and says nothing here. */
 #if defined(__cplusplus) && __cplusplus >= 201103L
 #define THK_ASSERT(holds) static_assert(holds, "thalluskin: another layout than the archive's")
 #elif !defined(__cplusplus) && defined(__STDC_VERSION__) && __STDC_VERSION__ >= 201112L

@@ -50,7 +50,7 @@ fn main() {
         refuse(&format!("libthalluskin.a is for little-endian processors, which {} is not", target));
     }
     if is("ARCH", "x86_64") && !(is("OS", "linux") && is("POINTER_WIDTH", "64")) {
-        refuse(&format!("libthalluskin.a for x86-64 passes structs as 64-bit Linux does, which {} is not", target));
+        refuse(&format!("the repository's libthalluskin.a for x86-64 is for 64-bit Linux, and {} is another", target));
     }
     let known = FOLDERS.iter().find(|(begin, _)| target.starts_with(begin));
     let folder = match (env::var_os("THALLUSKIN_LIB").map(PathBuf::from), known) {

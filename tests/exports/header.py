@@ -4,7 +4,7 @@ import re
 
 from common import ROOT, TESTS, read, run
 from exports import layouts
-from exports.machine import ARCHIVE, fail, must
+from exports.machine import ARCHIVE, fail, has, must
 from native import library
 
 INCLUDE = os.path.join(ROOT, "include")
@@ -33,8 +33,9 @@ def declared(text):
     structs = set(re.findall(r"^\} (\w+);", text, re.M)) - IN_HEADER_ALONE
     if structs != set(layouts.IN_C.values()):
         fail("the header has %s" % sorted(structs ^ set(layouts.IN_C.values())))
-    prototypes = {("thalluskin_" + name, " ".join(parameters.split()), answer) for answer, name, parameters in re.findall(
-        r"^THK_DECLARE\((\w+), (\w+), (.*?)\);", text, re.M | re.S)}
+    prototypes = {("thalluskin_" + name, " ".join(parameters.split()), answer)
+                  for answer, name, parameters in re.findall(
+                      r"^THK_DECLARE\((\w+), (\w+), (.*?)\);", text, re.M | re.S)}
     if prototypes != layouts.c_prototypes():
         fail("the header's prototypes are not the sources': %s" % sorted(prototypes ^ layouts.c_prototypes()))
     inline = {(name, answer, called) for answer, name, of_it, called in re.findall(
@@ -53,12 +54,17 @@ def declared(text):
 
 
 def dialects(at, folder, text):
-    """each compiles it without a warning; with a wrong assertion all refuse it that can"""
+    """how many compile it without a warning; with a wrong assertion all refuse it that can"""
+    tried = [dialect for dialect in (SILENT, *ASSERTING) if "+" not in dialect]
+    if has(at.prefix + "g++", at.package("g++")):
+        tried = [SILENT, *ASSERTING]
+    else:
+        print("exports: the header was not tried in C++, because there is no %sg++" % at.prefix)
     source, wrong = os.path.join(folder, "empty"), os.path.join(folder, "wrong")
     os.makedirs(wrong)
     with open(os.path.join(wrong, "thalluskin.h"), "w") as f:
         f.write(text.replace("THK_SIZE(thk_record, 200);", "THK_SIZE(thk_record, 196);"))
-    for dialect in (SILENT, *ASSERTING):
+    for dialect in tried:
         compiler, suffix = ("g++", ".cc") if "+" in dialect else ("gcc", ".c")
         with open(source + suffix, "w") as f:
             f.write('#include "thalluskin.h"\nint main(void) { return thk_utf8_step(0, 0, 0).found; }\n')
@@ -68,14 +74,16 @@ def dialects(at, folder, text):
                           "-pedantic", *lent, "-I", include, "-c", source + suffix, "-o", source + ".o")
                 if (got.returncode == 0) != holds:
                     fail("the header in %s, right %s: %s" % (dialect, holds, got.stderr.decode()[-2000:]))
-    must("the header in C++", at.prefix + "g++", "-std=c++11", "-I", INCLUDE, source + ".cc", ARCHIVE, "-o",
-         os.path.join(folder, "cc"))
+    if len(tried) > len(ASSERTING):
+        must("the header in C++", at.prefix + "g++", "-std=c++11", "-I", INCLUDE, source + ".cc", ARCHIVE, "-o",
+             os.path.join(folder, "cc"))
+    return len(tried)
 
 
-def processors(folder):
+def processors(at, folder):
     """the kit's clang takes the header for each processor that it serves, and for no other"""
     source = os.path.join(folder, "empty.c")
-    freestanding = ["-ffreestanding", "-isystem", library.run("gcc", "-print-file-name=include").strip()]
+    freestanding = ["-ffreestanding", "-isystem", library.run(at.prefix + "gcc", "-print-file-name=include").strip()]
     for target in SERVED + NOT_SERVED:
         got = run(library.compiler(), "--target=" + target, "-std=c11", "-Wall", "-Wextra", "-Werror", "-pedantic",
                   *freestanding, "-I", INCLUDE, "-fsyntax-only", source)
@@ -84,8 +92,9 @@ def processors(folder):
 
 
 def limits(at, folder):
-    """the limits are what the archive takes"""
-    program = at.build(os.path.join(TESTS, "exports", "limits.c"), os.path.join(folder, "limits"), "-Wextra", "-std=c99")
+    """the limits are what the archive takes, and the defaults what the header says; how many there are"""
+    source = os.path.join(TESTS, "exports", "limits.c")
+    program = at.build(source, os.path.join(folder, "limits"), "-Wextra", "-std=c99")
     return int(must("the limits", *program, os.path.join(ROOT, "examples", "f.pcf")))
 
 
@@ -99,11 +108,11 @@ def header(at, folder):
     printed = set(must("the layouts", *program).decode().splitlines())
     if printed != layouts.c_rows():
         fail("the header's structs are not the sources': %s" % sorted(printed ^ layouts.c_rows()))
-    dialects(at, folder, text)
-    processors(folder)
+    spoken = dialects(at, folder, text)
+    processors(at, folder)
     version = re.search(r'^version = "(\d+)\.(\d+)\.(\d+)"$', read("bindings", "rust", "Cargo.toml"), re.M)
     number = sum(int(part) * size for part, size in zip(version.groups(), (10000, 100, 1)))
     if "#define THK_VERSION %d\n" % number not in text:
         fail("the header's version is not the Rust crate's")
-    print("exports: the header's %d structs, %d prototypes and %d assertions are the sources'; %d dialects, %d processors "
-          "and %d limits" % (*counts, 1 + len(ASSERTING), len(SERVED), limits(at, folder)))
+    print("exports: the header's %d structs, %d prototypes and %d assertions are the sources'; %d dialects, "
+          "%d processors, %d limits and defaults" % (*counts, spoken, len(SERVED), limits(at, folder)))

@@ -37,6 +37,10 @@ def is_native():
 class Native:
     prefix, emulator = "", []
 
+    def package(self, command):
+        """the Debian package of a command with the prefix"""
+        return command
+
     def build(self, source, program, *options, archive=ARCHIVE):
         must("compiling " + source, self.prefix + "gcc", "-Wall", "-Werror", *options,
              "-I", os.path.join(ROOT, "include"), source, archive, "-o", program)
@@ -49,6 +53,9 @@ class Cross(Native):
 
     def __init__(self, emulator):
         self.emulator = [emulator]
+
+    def package(self, command):
+        return command + "-x86-64-linux-gnu"
 
     def build(self, source, program, *options, **more):
         return Native.build(self, source, program, "-static", *options, **more)

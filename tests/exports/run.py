@@ -1,7 +1,7 @@
 #!/usr/bin/env python3
-"""Tries libthalluskin.a from outside Rattle: its symbols and its stack; the header and the Rust crate against the Rattle
-sources; calls of all its functions from C against the model of document 01; the program examples/draw.c; the Rust
-crate's own tests, and clippy's where it is installed; the README's C, Rust and commands."""
+"""Tries libthalluskin.a from outside Rattle: its symbols and its stack; the header and the Rust crate against the
+Rattle sources; calls of all its functions from C against the model of document 01; the program examples/draw.c; the
+Rust crate's own tests, and clippy's where it is installed; the README's C, Rust and commands."""
 import os
 import sys
 import tempfile

@@ -9,6 +9,8 @@ from exports.header import c_refusals, c_words
 from exports.machine import ARCHIVE, fail, must
 from native import library
 
+ELSEWHERE = ["thumbv7em-none-eabi", "thumbv6m-none-eabi", "riscv32imac-unknown-none-elf",
+             "riscv64imac-unknown-none-elf", "aarch64-unknown-linux-gnu", "wasm32-unknown-unknown"]
 CRATE = os.path.join(ROOT, "bindings", "rust")
 BUILT = os.path.join(ROOT, "target", "rust")
 
@@ -27,6 +29,22 @@ def declarations():
     words = {dict(constants)[name]: said for name, said in re.findall(r'Refusal::(\w+) => \{?\s*"(.*)"', refusal)}
     if {0: c_words()[0], **words} != c_words():
         fail("the Rust crate's words are not the header's: %s" % sorted(set(words.items()) ^ set(c_words().items())))
+    limits = re.findall(r"^pub const (MAX_\w+): u64 = ([\d_]+);", read("bindings", "rust", "src", "page.rs"), re.M)
+    limits = [(name, n.replace("_", "")) for name, n in limits]
+    in_c = re.findall(r"\bTHK_(MAX_\w+) UINT64_C\((\d+)\)", read("include", "thalluskin.h"))
+    if sorted(limits) != sorted(in_c) or not limits:
+        fail("the Rust crate's limits are not the header's: %s" % sorted(set(limits) ^ set(in_c)))
+    types()
+
+
+def types():
+    """the fields of its structs have the types of the sources'"""
+    structs = read("bindings", "rust", "src", "structs.rs")
+    for kind, fields in layouts.STRUCTS.items():
+        body = re.search(r"struct %s(?: \{(.*?)^\}|\((.*?)\);)" % layouts.rust_struct(kind), structs, re.M | re.S)
+        found = re.findall(r"^    pub \w+: (\w+),$", body[1], re.M) if body[1] else [body[2].replace("pub ", "")]
+        if found != [layouts.in_rust(of) for _, of in fields]:
+            fail("the Rust struct %s has other types: %s" % (layouts.rust_struct(kind), found))
 
 
 def build_script(folder):
@@ -43,7 +61,8 @@ def build_script(folder):
                 **{"CARGO_CFG_TARGET_" + name: value for name, value in more.items()}}
     arm = of("thumbv7em-none-eabi", "arm", OS="none", POINTER_WIDTH="32")
     tries = [
-        ({}, None), (named, None), ({**arm, **named}, None), ({**of("armv7-unknown-linux-gnueabi", "arm"), **named}, None),
+        ({}, None), (named, None), ({**arm, **named}, None),
+        ({**of("armv7-unknown-linux-gnueabi", "arm"), **named}, None),
         ({"THALLUSKIN_LIB": os.path.join("target", "staticlib")}, "absolute path"),
         ({"THALLUSKIN_LIB": ""}, "absolute path"), ({"THALLUSKIN_LIB": folder}, "is not there"),
         (of("armv7-unknown-linux-gnueabi", "arm"), "makes no libthalluskin.a for armv7"),
@@ -51,7 +70,8 @@ def build_script(folder):
     ]
     for target, arch, place in (
             ("thumbv7em-none-eabihf", "arm", "cortex-m4"), ("thumbv6m-none-eabi", "arm", "cortex-m0plus"),
-            ("riscv32imac-unknown-none-elf", "riscv32", "riscv32"), ("riscv64gc-unknown-none-elf", "riscv64", "riscv64"),
+            ("riscv32imac-unknown-none-elf", "riscv32", "riscv32"),
+            ("riscv64gc-unknown-none-elf", "riscv64", "riscv64"),
             ("aarch64-unknown-linux-gnu", "aarch64", "aarch64"), ("wasm32-unknown-unknown", "wasm32", "wasm")):
         if not os.path.exists(os.path.join(ROOT, "target", place)):
             tries.append((of(target, arch), os.path.join(place, "libthalluskin.a") + " is not there"))
@@ -66,6 +86,19 @@ def build_script(folder):
         if (got.returncode, links) != (int(words is not None), words is None) or (words or "") not in said:
             fail("the build script, %s: status %d, %s" % (given, got.returncode, said))
     return len(tries)
+
+
+def elsewhere(cargo, folder):
+    """how many other targets the crate compiles for, of those that the compiler has, and which it has not"""
+    installed = os.path.join(must("rustc", "rustc", "--print", "sysroot").decode().strip(), "lib", "rustlib")
+    lacking = [target for target in ELSEWHERE if not os.path.exists(os.path.join(installed, target))]
+    named = os.path.join(folder, "empty")
+    os.makedirs(named)
+    open(os.path.join(named, "libthalluskin.a"), "wb").close()
+    for target in ELSEWHERE:
+        if target not in lacking:
+            cargo("check", "--target", target, THALLUSKIN_LIB=named)
+    return len(ELSEWHERE) - len(lacking), lacking
 
 
 def rust(folder, archive):
@@ -95,12 +128,18 @@ def rust(folder, archive):
     if run("cargo", "clippy", "--version", env=words).returncode == 0:
         cargo("clippy", "--all-targets")
         linted = "clippy passes"
+    shapes = "with structs lent"
     if archive == ARCHIVE:
+        shapes = "with structs by value and lent"
         lent = library.lent(os.path.join(folder, "lent"))
         again = passed(cargo("test", "--lib", RUSTFLAGS="--cfg thalluskin_lent", THALLUSKIN_LIB=os.path.dirname(lent),
                              CARGO_TARGET_DIR=os.path.join(folder, "rust")))
         if again != counts[:1]:
             fail("with structs lent, cargo test ran %s tests" % again)
+    checked, lacking = elsewhere(cargo, folder)
+    if lacking:
+        print("exports: Rust: not compiled for %s, whose core is not installed" % ", ".join(lacking))
     scripts = build_script(folder)
-    print("exports: Rust: %d unit tests, the same with structs lent, %d doc tests, %d of the build script, %s; its "
-          "structs, declarations, refusals and words are the sources'" % (*counts, scripts, linted))
+    print("exports: Rust: %d unit tests %s, %d doc tests, %d other targets, %d tries of the build script, %s; its "
+          "structs, declarations, refusals, words and limits are the sources' or the header's" % (
+              counts[0], shapes, counts[1], checked, scripts, linted))

@@ -32,10 +32,12 @@ def taken(word, operands):
     """by how much an instruction moves the stack's pointer down"""
     if word in ("push", "pop"):
         return WORD if word == "push" else -WORD
-    moved = re.fullmatch(r"\$(-?0x[0-9a-f]+),%rsp", operands)
+    moved = re.fullmatch(r"\$0x([0-9a-f]+),%rsp", operands)
     if moved and word in ("add", "sub"):
-        return int(moved[1], 16) * (1 if word == "sub" else -1)
-    if operands.endswith(",%rsp") and word not in ("cmp", "test"):
+        n = int(moved[1], 16)
+        n -= n >> 63 << 64  # it is signed
+        return n if word == "sub" else -n
+    if re.match("push|pop|enter|leave", word) or operands.endswith(",%rsp") and word not in ("cmp", "test"):
         fail("stack: what does '%s %s' take?" % (word, operands))
     return 0
 
@@ -81,6 +83,8 @@ def deepest(found, name, above=()):
     most = 0
     for k, before in depths(found[name]).items():
         _, word, operands, named = found[name][k]
+        if word.startswith("call") and not named:
+            fail("stack: whom does '%s %s' call?" % (word, operands))
         below = [int(n, 16) for n in re.findall(r"-(0x[0-9a-f]+)\(%rsp", operands)]
         inside = [deepest(found, named, (*above, name)) + WORD * (word == "call")] if named else []
         most = max([most, before + max(0, taken(word, operands)), *(before + n for n in below + inside)])

@@ -105,7 +105,8 @@ def prototypes():
     with open(HEADER) as f:
         text = f.read()
     for answer, name, given in re.findall(r"^THK_DECLARE\((\w+), (\w+), (.*?)\);", text, re.M | re.S):
-        parts = [re.fullmatch(r"(?:THK_STRUCT\((\w+)\) |(.*?))(\w+)", " ".join(one.split())) for one in given.split(",")]
+        parts = [" ".join(one.split()) for one in given.split(",")]
+        parts = [re.fullmatch(r"(?:THK_STRUCT\((\w+)\) |(.*?))(\w+)", one) for one in parts]
         yield answer, name, [(m[1] + " " if m[1] else m[2], m[3], m[1] is not None) for m in parts]
 
 
@@ -154,10 +155,10 @@ def compiled(folder):
     return packed(made, at("whole.o"))
 
 
-def packed(made, *objects):
+def packed(made, whole, prefix=""):
     if os.path.exists(made):
         os.remove(made)
-    run("ar", "rcs", made, *objects)
+    run(prefix + "ar", "rcs", made, whole)
     return made
 
 
@@ -169,7 +170,7 @@ def lent(folder, prefix=""):
     run(prefix + "ld", "-r", "--whole-archive", ARCHIVE, lending_o, "-o", whole)
     run(prefix + "objcopy", "--wildcard", "--keep-global-symbol=thalluskin_lent_*",
         "--keep-global-symbol=thalluskin_version", whole)
-    return packed(os.path.join(folder, "libthalluskin.a"), whole)
+    return packed(os.path.join(folder, "libthalluskin.a"), whole, prefix)
 
 
 def for_this_machine():

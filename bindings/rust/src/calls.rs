@@ -9,10 +9,10 @@
 //!   structs, and before all others one to where its answer goes. `--cfg thalluskin_lent` chooses this shape on x86-64
 //!   too.
 //!
-//! What each call asks of its caller is in include/thalluskin.h, and the types here see to it: a slice is memory that
-//! may be read for as long as it is lent, and a `&mut` slice is aligned, may be written and overlaps no other; a
-//! `bool` is 0 or 1. The library is proved to stay within the slices and to answer for every value of them; it keeps
-//! no pointer.
+//! What each call asks of its caller is in include/thalluskin.h, and the types here see to it, but for the stack: a
+//! slice is memory that may be read for as long as it is lent, and a `&mut` slice is aligned, may be written and
+//! overlaps no other; a `bool` is 0 or 1. The library is proved to stay within the slices and to answer for every value
+//! of them; it keeps no pointer.
 use crate::structs::*;
 
 // How many there are, as the library counts: no `usize` has over 64 bits.

@@ -265,8 +265,10 @@ impl<'a> Font<'a> {
         answer(a.refusal, a.place, a.accel)
     }
 
-    /// The height and width of the font's maximum bounds, as its file states them. A glyph may be wider or reach lower;
-    /// [`Font::check`] says what a text needs. Refused 6, 11.
+    /// The height and width of the font's maximum bounds, as its file states them. A glyph may be wider or reach lower,
+    /// and a text's lines have this height all the same; that a text fits a page is said by [`Font::check`], whose
+    /// `dropped` is 0 then. 11 is for an ascent or width below 0, or a height, which is ascent and descent together,
+    /// outside 0 to 32,767. Refused 6, 11.
     ///
     /// ```
     /// # use thalluskin::{Extent, Font};
@@ -279,7 +281,8 @@ impl<'a> Font<'a> {
         answer(a.refusal, a.place, a.extent)
     }
 
-    /// A character's glyph, placed. Refused 6, 9, 10, 11.
+    /// A character's glyph, placed. 11 is for a width, ascent or left bearing below 0, a height, which is ascent and
+    /// descent together, outside 0 to 32,767, or an ascent above that of the maximum bounds. Refused 6, 9, 10, 11.
     ///
     /// ```
     /// # use thalluskin::{Font, GlyphIndex, GlyphInfo};
@@ -415,11 +418,18 @@ pub fn utf8_step(text: impl AsRef<[u8]>, i: u64) -> Result<Option<(CharCode, u64
     answer(a.refusal, a.place, if a.found { Some((a.code, a.next)) } else { None })
 }
 
-/// The version of the archive that is linked: 10,000 times its first number, 100 times its second, and its third. 0.1.0
-/// is 100.
+/// The version of the archive that this crate is for, 0.1.0: 10,000 times its first number, 100 times its second, and
+/// its third.
 ///
 /// ```
-/// assert_eq!(thalluskin::version(), 100);
+/// assert_eq!(thalluskin::VERSION, 100);
+/// ```
+pub const VERSION: u32 = 100;
+
+/// The version of the archive that is linked, which has to be [`VERSION`].
+///
+/// ```
+/// assert_eq!(thalluskin::version(), thalluskin::VERSION);
 /// ```
 pub fn version() -> u32 {
     calls::version()

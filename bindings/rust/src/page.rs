@@ -62,7 +62,7 @@ pub const MAX_TEXT: u64 = 65_535;
 /// ```
 pub const MAX_BOX: u64 = 32_767;
 
-/// The mode of a drawing as the rule book has it, and the only one that there is: a call in another is refused (15).
+/// The mode of a drawing as [`Font`](crate::Font) describes it, the only one so far: a call in another is refused (15).
 ///
 /// ```
 /// # use thalluskin::{Drawing, Font, Refusal, PLAIN};
@@ -210,7 +210,7 @@ pub struct Page<'p> {
 }
 
 impl<'p> Page<'p> {
-    /// Lines of `stride` pixels, drawn on from pixel 0 on, at scale 1, in colour 1, without wrapping, in mode [`PLAIN`].
+    /// Lines of `stride` pixels, drawn on from pixel 0 on, at scale 1, in colour 1, without wrapping, [`PLAIN`].
     ///
     /// ```
     /// # use thalluskin::{Drawing, Page};

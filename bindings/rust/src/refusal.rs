@@ -21,7 +21,7 @@ pub struct Refusal {
     pub place: u64,
 }
 
-/// The numbers, in the order of the rules.
+/// The numbers.
 impl Refusal {
     /// File under 8 bytes.
     pub const FILE_SHORT: u32 = 1;

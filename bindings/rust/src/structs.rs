@@ -397,3 +397,10 @@ pub(crate) struct StepAnswer {
     pub code: CharCode,
     pub next: u64,
 }
+
+// The archive's layout, which repr(C) gives where a u64 stands at a multiple of 8. x86 of 32 bits, AVR and MSP430 have
+// another, and there an answer would be written past its end.
+const _: () = assert!(
+    core::mem::align_of::<u64>() == 8 && core::mem::size_of::<Record>() == 200,
+    "thalluskin: another layout than the archive's"
+);

@@ -31,6 +31,7 @@ fn unseen(code: u32) -> bool
         | (code == 0x61C)
         | ((0x115F <= code) & (code <= 0x1160))
         | (code == 0x1680)
+        | ((0x17B4 <= code) & (code <= 0x17B5))
         | ((0x180B <= code) & (code <= 0x180F))
         | ((0x2000 <= code) & (code <= 0x200F))
         | ((0x2028 <= code) & (code <= 0x202F))
@@ -41,7 +42,9 @@ fn unseen(code: u32) -> bool
         | ((0xFE00 <= code) & (code <= 0xFE0F))
         | (code == 0xFEFF)
         | (code == 0xFFA0)
-        | ((0xFFF9 <= code) & (code <= 0xFFFB))
+        | ((0xFFF0 <= code) & (code <= 0xFFFB))
+        | ((0x1BCA0 <= code) & (code <= 0x1BCA3))
+        | ((0x1D173 <= code) & (code <= 0x1D17A))
         | ((0xE0000 <= code) & (code <= 0xE0FFF))
 }
 

@@ -6,6 +6,7 @@ use mathlib.Core.List.{List}
 use Prim.Native.Nat.{ℕ}
 use lib.Dec.{leb}
 use lib.ListN.{length}
+use Rattle.reads.specs.declared.Refusal.{Refusal}
 use Rattle.reads.proofs.Tests.{split}
 use Rattle.tables.specs.Fits.{recordFits, guarded, ladder}
 use Rattle.tables.specs.declared.Record.{Record}
@@ -29,6 +30,7 @@ use Rattle.thalluskin.specs.Modes.{isKnown, strideOf}
 use Rattle.thalluskin.specs.Drawing.{placeOf}
 use Rattle.thalluskin.specs.Texts.{layoutOf}
 use Rattle.thalluskin.specs.declared.PageNumbers.{PageNumbers}
+use Rattle.thalluskin.proofs.Strides.{stride-unknown}
 use Rattle.promises.specs.Exported.{unknownMode}
 
 pub glyph-plain : (s : List ℕ) (rec : Record) (code : ℕ) → guarded Found.Refused s rec (isKnown 0) (glyphOf s (rec .codes) code) ≡ getGlyph s rec code
@@ -39,44 +41,42 @@ pub prep-char-plain : (s : List ℕ) (rec : Record) (code : ℕ) → guarded Pre
 unfolding prepChar
 prep-char-plain s rec code = refl
 
-pub stride-in-known : (page : PageNumbers) → isKnown (page .mode) ≡ true → strideOf page ≡ page .stride
-unfolding strideOf
-stride-in-known page e = rw e refl
-
-stride-in-unknown : (page : PageNumbers) → isKnown (page .mode) ≡ false → strideOf page ≡ 0
-unfolding strideOf
-stride-in-unknown page e = rw e refl
-
 no-lines : (p scale : ℕ) → okPlace (placeAt p 0 scale) ≡ false
 no-lines p scale = split (leb p 2147483647) (λ t. rw t refl) (λ t. rw t refl)
 
+-- of a call that looks a glyph up or places one
+pub guarded-unknown : {A : Type 0} (refused : Refusal → A) (s : List ℕ) (rec : Record) (mode : ℕ) (answer : A) → isKnown mode ≡ false
+    → guarded refused s rec (isKnown mode) answer ≡ refused (unknownMode s rec)
+guarded-unknown refused s rec mode answer unknown = rw unknown (split (recordFits (length s) rec) (λ t. rw t refl) (λ t. rw t refl))
+
+-- of one that draws or unpacks
 module _ (s : List ℕ) (rec : Record) (page : PageNumbers) (unknown : isKnown (page .mode) ≡ false) where
   pub draw-bitmap-unknown : (g width height len : ℕ) → drawBitmap s rec g width height len (placeOf page) ≡ Drawn.Refused (unknownMode s rec)
   unfolding drawBitmap bitmapReady
   draw-bitmap-unknown g width height len =
-      rw (stride-in-unknown page unknown, no-lines (page .start) (page .scale))
+      rw (← stride-unknown page (isKnown (page .mode)) refl unknown, no-lines (page .start) (page .scale))
       (split (recordFits (length s) rec) (λ t. rw t refl) (λ t. rw t refl))
 
   pub draw-glyph-unknown : (info : GlyphInfo) (len : ℕ) → drawGlyph s rec info len (placeOf page) ≡ Drawn.Refused (unknownMode s rec)
   unfolding drawGlyph glyphReady ladder
   draw-glyph-unknown info len =
-      rw (stride-in-unknown page unknown, no-lines (page .start) (page .scale))
+      rw (← stride-unknown page (isKnown (page .mode)) refl unknown, no-lines (page .start) (page .scale))
       (split (recordFits (length s) rec) (λ t. rw t refl) (λ t. rw t refl))
 
   pub draw-char-unknown : (code len : ℕ) → drawChar s rec code len (placeOf page) ≡ CharDrawn.Refused (unknownMode s rec)
   unfolding drawChar charReady
   draw-char-unknown code len =
-      rw (stride-in-unknown page unknown, no-lines (page .start) (page .scale))
+      rw (← stride-unknown page (isKnown (page .mode)) refl unknown, no-lines (page .start) (page .scale))
       (split (recordFits (length s) rec) (λ t. rw t refl) (λ t. rw t refl))
 
   pub unpack-glyph-unknown : (info : GlyphInfo) (len : ℕ) → unpackGlyph s rec info len (page .start) (strideOf page) ≡ Unpacked.Refused (unknownMode s rec)
   unfolding unpackGlyph glyphReady ladder
   unpack-glyph-unknown info len =
-      rw (stride-in-unknown page unknown, no-lines (page .start) 1)
+      rw (← stride-unknown page (isKnown (page .mode)) refl unknown, no-lines (page .start) 1)
       (split (recordFits (length s) rec) (λ t. rw t refl) (λ t. rw t refl))
 
   pub draw-string-unknown : (text : List ℕ) (len : ℕ) → drawString s rec text len (layoutOf page) ≡ TextDrawn.Refused (unknownMode s rec)
   unfolding drawString ready
   draw-string-unknown text len =
-      rw (stride-in-unknown page unknown, no-lines (page .start) (page .scale))
+      rw (← stride-unknown page (isKnown (page .mode)) refl unknown, no-lines (page .start) (page .scale))
       (split (recordFits (length s) rec) (λ t. rw t refl) (λ t. rw t refl))

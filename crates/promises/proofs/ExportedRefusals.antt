@@ -1,4 +1,5 @@
--- The numbers of the exported functions that take a mode and no page: those of the library's call, and 15 of an unknown mode after 6.
+-- The numbers of the exported functions that take a record and a mode and no page: those of the library's call, and 15 of an
+-- unknown mode after 6.
 use mathlib.Core.Path.{refl}
 use mathlib.Core.List.{List, [], _∷_}
 use Prim.Native.Nat.{ℕ}

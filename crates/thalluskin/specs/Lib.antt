@@ -1,3 +1,4 @@
+pub mod Version
 pub mod Modes
 pub mod Reading
 pub mod Placing

@@ -1,6 +1,5 @@
 -- What the exported functions of loading and reading answer: the refusal's number, 0 for none, and the place; then the values. From document
 -- 01: "A refusal returns its number, a place and no other value"; where there is none, a struct has 0.
-use Prim.Native.Nat.{ℕ}
 use mathlib.Core.Bool.{true, false}
 use Rattle.load.specs.Gather.{noMetrics, blank}
 use Rattle.load.specs.declared.Loaded.{Loaded}
@@ -18,10 +17,6 @@ use Rattle.thalluskin.specs.declared.GlyphAnswer.{GlyphAnswer}
 use Rattle.thalluskin.specs.declared.NameAnswer.{NameAnswer}
 use Rattle.thalluskin.specs.declared.MetricsAnswer.{MetricsAnswer}
 use Rattle.thalluskin.specs.declared.AccelAnswer.{AccelAnswer}
-
--- 0.1.0: 10,000 times the first number, 100 times the second, and the third
-abbrev pub version : ℕ
-version = 100
 
 abbrev pub fontAnswer : Loaded → FontAnswer
 fontAnswer (Loaded.Font rec) = record { refusal = 0; place = 0; rec = rec }

@@ -9,6 +9,7 @@ mod modes;
 mod placing;
 mod reading;
 mod texts;
+mod version;
 
 use bitmaps::Rows;
 pub use drawing::thalluskin_draw_bitmap;
@@ -26,7 +27,6 @@ pub use reading::thalluskin_load;
 pub use reading::thalluskin_metrics;
 pub use reading::thalluskin_name;
 pub use reading::thalluskin_property;
-pub use reading::thalluskin_version;
 pub use reading::thalluskin_vet;
 use reads::CharCode;
 use reads::GlyphIndex;
@@ -37,6 +37,7 @@ use text::TextRows;
 pub use texts::thalluskin_draw_string;
 pub use texts::thalluskin_text_check;
 pub use texts::thalluskin_utf8_step;
+pub use version::thalluskin_version;
 
 // The numbers of a drawing. `wrap` is for texts alone, and with every bit set it is none; unpacking looks at `start`,
 // `stride` and `mode`.

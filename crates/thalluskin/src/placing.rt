@@ -76,8 +76,8 @@ fn info_answer(prepared: Prepared) -> InfoAnswer
     }
 }
 
-// A character's glyph, placed, as `place::prep_char` answers it. Refused, with place 0: 6, 15 for an unknown mode, 9, 10,
-// 11.
+// A character's glyph, placed, as `place::prep_char` answers it. Refused, with place 0: 6, 15 for an unknown mode, 9,
+// 10, 11.
 #[no_mangle]
 pub extern "C" fn thalluskin_prep_char(
     bytes: &[u8],

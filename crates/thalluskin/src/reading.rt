@@ -42,15 +42,7 @@ ghost use Rattle.tables.specs.Fits.{guarded};
 ghost use Rattle.lookup.specs.declared.Found.{Found};
 ghost use Rattle.load.specs.declared.Loaded.{Loaded};
 ghost use Rattle.thalluskin.specs.Modes.{isKnown};
-ghost use Rattle.thalluskin.specs.Reading.{version, fontAnswer, noSpan, propAnswer, propertyAnswer, glyphAnswer, nameAnswer, metricsAnswer, accelAnswer};
-
-// The version of the archive: 10,000 times its first number, 100 times its second, and its third.
-#[no_mangle]
-pub extern "C" fn thalluskin_version() -> u32
-    ensures { λ r. ⌜ r ≡ version ⌝ }
-{
-    100
-}
+ghost use Rattle.thalluskin.specs.Reading.{fontAnswer, noSpan, propAnswer, propertyAnswer, glyphAnswer, nameAnswer, metricsAnswer, accelAnswer};
 
 // What loading or vetting answered.
 fn font_answer(loaded: Loaded) -> FontAnswer
