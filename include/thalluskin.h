@@ -4,9 +4,9 @@
  *     cc program.c -I include target/staticlib/libthalluskin.a
  *
  * `rt staticlib thalluskin` makes the archive, for x86-64 Linux. It needs SSE registers, memcpy and memset, and nothing
- * else. It holds no state, allocates nothing and keeps no pointer, so that any number of threads may call it. One header
- * serves every processor that has its bytes in little-endian order and puts a uint64_t at a multiple of 8, those of 32
- * bits too.
+ * else. It holds no state, allocates nothing and keeps no pointer, so that any number of threads may call it. One
+ * header serves every processor that has its bytes in little-endian order and puts a uint64_t at a multiple of 8, those
+ * of 32 bits too.
  *
  * A font is the bytes of its file, which stay the caller's, and the record that thk_load or thk_vet gives for them;
  * each call takes both. Every call has an answer for every font, record, text and number, a record that was made up
@@ -32,10 +32,10 @@
  * The archive has no tables to unwind its frames by: it throws nothing and calls nothing of its caller's, so that no
  * exception passes through it. A debugger that stops inside it may not see who called.
  *
- * Every answer but the version begins with `refusal`, 0 or the number of the reason why there is no result, and `place`,
- * which says where: for THK_BAD_OFFSET, THK_BAD_TABLE and THK_CODE_BOUNDS in loading the directory entry from 0; in
- * vetting the property or the code; in a text the byte where the refusing character starts; for THK_BAD_TEXT the first
- * byte at which no character starts, or 0 where the text is too long; otherwise 0. Where `refusal` is not 0 every
+ * Every answer but the version begins with `refusal`, 0 or the number of the reason why there is no result, and
+ * `place`, which says where: for THK_BAD_OFFSET, THK_BAD_TABLE and THK_CODE_BOUNDS in loading the directory entry from
+ * 0; in vetting the property or the code; in a text the byte where the refusing character starts; for THK_BAD_TEXT the
+ * first byte at which no character starts, or 0 where the text is too long; otherwise 0. Where `refusal` is not 0 every
  * other value of the answer is 0 and buffers are as they were; where it is 0, so is `place`. thk_refusal_words says a
  * number in words. Places and lengths have 64 bits on every processor, so that printf takes them by PRIu64.
  *
@@ -93,7 +93,8 @@ enum {
 /* For `wrap`: lines end at newlines alone. */
 #define THK_NO_WRAP UINT64_MAX
 
-/* For `mode`: drawing as this header describes it. Other modes are to come; until then 15 refuses every other number. */
+/* For `mode`: drawing as this header describes it. Other modes are to come; until then 15 refuses every other
+ * number. */
 #define THK_PLAIN 0
 
 /* A character's code and a glyph's number in its font: two types, so that neither is taken for the other. */
@@ -200,9 +201,9 @@ typedef struct {
 /* ---- What calls take. */
 
 /* A page to draw on, and how: `len` pixels in lines of `stride`; where drawing begins; how large a bit is drawn; where
- * lines of a text wrap; the colour; the mode. Begin with thk_page_of, which sets every field. In a struct that is set by
- * hand what is left out is 0: a stride or scale of 0 is refused (15), but with a `wrap` of 0 every letter begins a new
- * line, and colour 0 may be that of the page. */
+ * lines of a text wrap; the colour; the mode. Begin with thk_page_of, which sets every field. In a struct that is set
+ * by hand what is left out is 0: a stride or scale of 0 is refused (15), but with a `wrap` of 0 every letter begins a
+ * new line, and colour 0 may be that of the page. */
 typedef struct {
     uint32_t *pixels;
     uint64_t len;
@@ -366,10 +367,10 @@ typedef struct {
     uint64_t next;
 } thk_step_answer;
 
-/* ---- The archive's own functions, which the ones below call. On x86-64 a struct goes by value, and the archive of
- * `rt staticlib` has these alone. Elsewhere, and where THK_LENT is defined, the answer goes where the first argument
- * points, and a struct is lent by a pointer: how a struct goes by value is each processor's own affair. Programs have no
- * need of them. */
+/* ---- The archive's own functions, which the ones below call. On x86-64 a struct goes by value, and the archive of `rt
+ * staticlib` has these alone. Elsewhere, and where THK_LENT is defined, the answer goes where the first argument
+ * points, and a struct is lent by a pointer: how a struct goes by value is each processor's own affair. Programs have
+ * no need of them. */
 #if defined(__BYTE_ORDER__) && __BYTE_ORDER__ != __ORDER_LITTLE_ENDIAN__
 #error "thalluskin is for processors with little-endian byte order"
 #endif
@@ -434,43 +435,43 @@ static inline const char *thk_refusal_words(uint32_t number)
     case THK_DONE:
         return "not refused";
     case THK_FILE_SHORT:
-        return "the file has under 8 bytes";
+        return "file under 8 bytes";
     case THK_NOT_PCF:
-        return "not a PCF font: the first four bytes are not 01 66 63 70";
+        return "first four bytes not 01 66 63 70";
     case THK_MANY_ENTRIES:
         return "over 64 directory entries";
     case THK_BAD_DIRECTORY:
-        return "the directory runs past the file's end";
+        return "directory runs past the file";
     case THK_BAD_OFFSET:
-        return "a table starts past the file's end";
+        return "an entry's offset exceeds the file length";
     case THK_BAD_TABLE:
-        return "a table's contents run past its bytes, or the record does not fit the font's bytes";
+        return "a known table's contents run past its bytes; in calls, a record that does not fit the font's bytes";
     case THK_CODE_BOUNDS:
-        return "the code table has a minimum above its maximum";
+        return "code table with a minimum above its maximum";
     case THK_NO_TABLE:
-        return "a table is missing; properties, accelerators, metrics, bitmaps, codes and names must be there";
+        return "a table is missing";
     case THK_NO_GLYPH:
-        return "the font has no glyph for this code";
+        return "no glyph for this code";
     case THK_NO_METRICS:
-        return "the glyph has no metrics";
+        return "glyph at or above the metrics count";
     case THK_BAD_METRICS:
-        return "metrics out of range, of a glyph or of the font's bounds; often a left bearing or an ascent below 0";
+        return "metrics out of range";
     case THK_NO_BITMAP:
-        return "the glyph has no bitmap";
+        return "glyph at or above the bitmap count";
     case THK_BIT_ORDER:
-        return "bitmaps with scan unit code 3, or with scan units wider than the row pad";
+        return "scan unit code 3, or a scan unit wider than the row pad";
     case THK_BITMAP_SHORT:
-        return "a glyph's rows run past the bitmap data";
+        return "a needed bitmap byte lies beyond the bitmap data";
     case THK_BAD_ARGUMENT:
-        return "a number outside its limits";
+        return "an argument other than the text outside its limits";
     case THK_BUFFER_SHORT:
         return "a pixel to colour lies beyond the buffer";
     case THK_NO_NAME:
-        return "the glyph has no name, or there is no property with this number";
+        return "glyph at or above the names count, or property number too high";
     case THK_BAD_STRING:
-        return "a string does not end within its data: a property's, or a glyph's name";
+        return "string offset beyond the string data, or no zero byte at or after it";
     case THK_BAD_TEXT:
-        return "the text has over 65,535 bytes or is not UTF-8";
+        return "text too long or not UTF-8";
     default:
         return "an unknown reason";
     }
@@ -543,8 +544,8 @@ static inline thk_extent_answer thk_dimensions(const uint8_t *font, uint64_t fon
 }
 
 /* A character's glyph, placed. 11 is for a width, ascent or left bearing below 0, a height, which is ascent and descent
- * together, outside 0 to 32,767, or an ascent above that of the maximum bounds. Refused 6, 15 for an unknown mode, 9, 10,
- * 11. */
+ * together, outside 0 to 32,767, or an ascent above that of the maximum bounds. Refused 6, 15 for an unknown mode, 9,
+ * 10, 11. */
 static inline thk_info_answer thk_prep_char(const uint8_t *font, uint64_t font_len, const thk_record *rec,
                                             thk_char_code code, uint32_t mode)
 {
@@ -666,8 +667,8 @@ static inline thk_unpack_answer thk_unpack_glyph(const uint8_t *font, uint64_t f
  * and drops nothing, but wraps and moves the pen as any other. The answer's height is y and one line height. */
 
 /* Draws a text. With a font that was not vetted, 11 at 0 is of the bounds if thk_dimensions is refused 11, else of the
- * first character's glyph. Refused 6, 15, 19, 11 of the bounds; then the first character with a refusal decides: 10, 11,
- * 13, 14, 16. */
+ * first character's glyph. Refused 6, 15, 19, 11 of the bounds; then the first character with a refusal decides: 10,
+ * 11, 13, 14, 16. */
 static inline thk_text_answer thk_draw_string(const uint8_t *font, uint64_t font_len, const thk_record *rec,
                                               const uint8_t *text, uint64_t text_len, const thk_page *page)
 {

@@ -10,6 +10,16 @@ from exports.header import c_words
 from pcf.font_f import two_digits
 
 
+def meaning(number):
+    """the header's words, and what the script adds to them"""
+    added = {
+        8: "; properties, accelerators, metrics, bitmaps, codes and names must be there",
+        11: ", of a code's glyph or of the font's bounds; often a left bearing or an ascent below 0",
+        15: "; a scale may be 1 to 64",
+    }
+    return c_words()[number] + added.get(number, "")
+
+
 def standing(r):
     """what the place of a font's refusal is"""
     if r.number in (5, 6, 7):
@@ -37,16 +47,16 @@ def not_shown(folder):
         fail("the model does not refuse %s with %d at %d" % (text, number, place))
 
     for scale in (0, 65, 4294967295):
-        refused("scale %d" % scale, "refused 15: %s\n" % c_words()[15], "--scale", str(scale), "12")
-    beyond = "refused 16: " + c_words()[16] + " (at byte %d of the text)"
+        refused("scale %d" % scale, "refused 15: %s\n" % meaning(15), "--scale", str(scale), "12")
+    beyond = "refused 16: " + meaning(16) + " (at byte %d of the text)"
     refused_by_model(16, 0, b"0", 6, 4, 2, None)
     refused("beyond the panel", beyond % 0, "0", "--font=f.pcf", "--scale=2", "--width=6", "--height=4", "--wrap=none")
     refused_by_model(16, 1, b"10", 6, 6, 2, None)
     refused("beyond the panel, later", beyond % 1, "10", "--font=f.pcf", "--scale=2", "--width=6", "--height=6",
             "--wrap=none")
-    refused("not UTF-8", "refused 19: %s (at byte 2 of" % c_words()[19], b"12\xff3")
+    refused("not UTF-8", "refused 19: %s (at byte 2 of" % meaning(19), b"12\xff3")
     refused("a cut character", "(at byte 3 of the text)", b"21 \xc2")
-    refused("too long", "refused 19: %s (at byte 0 of" % c_words()[19], "1" * 65536)
+    refused("too long", "refused 19: %s (at byte 0 of" % meaning(19), "1" * 65536)
     refused("much too long", "refused 19", "1" * 100000)
     seen = set()
     for name, font in make.font_files().items():
@@ -58,7 +68,7 @@ def not_shown(folder):
             model.vet(font)
             fail("%s is not refused" % name)
         except model.Refused as r:
-            said = "refused %02d: %s (%s)\n" % (r.number, c_words()[r.number], standing(r) + name)
+            said = "refused %02d: %s (%s)\n" % (r.number, meaning(r.number), standing(r) + name)
         expect(name, run("show", "--font", store(folder, name, font), "12", folder=folder), 1, b"", said)
 
 

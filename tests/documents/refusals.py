@@ -175,7 +175,9 @@ def told_numbers():
     text = code.read("include/thalluskin.h")
     header = re.findall(r"^ *THK_(\w+) = (\d+)\b", text, re.M)
     yield "include/thalluskin.h", [int(n) for _, n in header], [0] + library
-    yield "include/thalluskin.h, words", re.findall(r"^ *case THK_(\w+):$", text, re.M), [name for name, _ in header]
+    words = re.findall(r'^ *case THK_(\w+):\n *return "(.*)";$', text, re.M)
+    told = {row[0]: row[1] for t in tables for _, row in t.rows}
+    yield "include/thalluskin.h, words", words, [(name, told.get(n, "not refused")) for name, n in header]
     refusal = code.read("bindings/rust/src/refusal.rs")
     constants = re.findall(r"^ *pub const (\w+): u32 = (\d+);", refusal, re.M)
     yield "bindings/rust/src/refusal.rs", constants, header[1:]

@@ -8,7 +8,7 @@ use core::fmt;
 /// # use thalluskin::{Font, Refusal};
 /// let short = Font::load(b"pcf").unwrap_err();
 /// assert_eq!(short, Refusal { number: Refusal::FILE_SHORT, place: 0 });
-/// assert_eq!(short.to_string(), "refused 1 at 0: the file has under 8 bytes");
+/// assert_eq!(short.to_string(), "refused 1 at 0: file under 8 bytes");
 /// ```
 ///
 /// It is a `core::error::Error` from Rust 1.81 on, which was the first to have that outside std.
@@ -71,34 +71,32 @@ impl Refusal {
     /// ```
     /// # use thalluskin::Refusal;
     /// let none = Refusal { number: Refusal::NO_GLYPH, place: 0 };
-    /// assert_eq!(none.reason(), "the font has no glyph for this code");
+    /// assert_eq!(none.reason(), "no glyph for this code");
     /// ```
     pub fn reason(&self) -> &'static str {
         match self.number {
             0 => "the library's answer points outside the font's bytes",
-            Refusal::FILE_SHORT => "the file has under 8 bytes",
-            Refusal::NOT_PCF => "not a PCF font: the first four bytes are not 01 66 63 70",
+            Refusal::FILE_SHORT => "file under 8 bytes",
+            Refusal::NOT_PCF => "first four bytes not 01 66 63 70",
             Refusal::MANY_ENTRIES => "over 64 directory entries",
-            Refusal::BAD_DIRECTORY => "the directory runs past the file's end",
-            Refusal::BAD_OFFSET => "a table starts past the file's end",
-            Refusal::BAD_TABLE => "a table's contents run past its bytes, or the record does not fit the font's bytes",
-            Refusal::CODE_BOUNDS => "the code table has a minimum above its maximum",
-            Refusal::NO_TABLE => {
-                "a table is missing; properties, accelerators, metrics, bitmaps, codes and names must be there"
+            Refusal::BAD_DIRECTORY => "directory runs past the file",
+            Refusal::BAD_OFFSET => "an entry's offset exceeds the file length",
+            Refusal::BAD_TABLE => {
+                "a known table's contents run past its bytes; in calls, a record that does not fit the font's bytes"
             }
-            Refusal::NO_GLYPH => "the font has no glyph for this code",
-            Refusal::NO_METRICS => "the glyph has no metrics",
-            Refusal::BAD_METRICS => {
-                "metrics out of range, of a glyph or of the font's bounds; often a left bearing or an ascent below 0"
-            }
-            Refusal::NO_BITMAP => "the glyph has no bitmap",
-            Refusal::BIT_ORDER => "bitmaps with scan unit code 3, or with scan units wider than the row pad",
-            Refusal::BITMAP_SHORT => "a glyph's rows run past the bitmap data",
-            Refusal::BAD_ARGUMENT => "a number outside its limits",
+            Refusal::CODE_BOUNDS => "code table with a minimum above its maximum",
+            Refusal::NO_TABLE => "a table is missing",
+            Refusal::NO_GLYPH => "no glyph for this code",
+            Refusal::NO_METRICS => "glyph at or above the metrics count",
+            Refusal::BAD_METRICS => "metrics out of range",
+            Refusal::NO_BITMAP => "glyph at or above the bitmap count",
+            Refusal::BIT_ORDER => "scan unit code 3, or a scan unit wider than the row pad",
+            Refusal::BITMAP_SHORT => "a needed bitmap byte lies beyond the bitmap data",
+            Refusal::BAD_ARGUMENT => "an argument other than the text outside its limits",
             Refusal::BUFFER_SHORT => "a pixel to colour lies beyond the buffer",
-            Refusal::NO_NAME => "the glyph has no name, or there is no property with this number",
-            Refusal::BAD_STRING => "a string does not end within its data: a property's, or a glyph's name",
-            Refusal::BAD_TEXT => "the text has over 65,535 bytes or is not UTF-8",
+            Refusal::NO_NAME => "glyph at or above the names count, or property number too high",
+            Refusal::BAD_STRING => "string offset beyond the string data, or no zero byte at or after it",
+            Refusal::BAD_TEXT => "text too long or not UTF-8",
             _ => "an unknown reason",
         }
     }

@@ -323,8 +323,8 @@ fn a_refusal_is_an_error() {
         Ok(Font::load(file)?.bytes()[0])
     }
     assert_eq!(first_byte(F).unwrap(), 1);
-    assert_eq!(first_byte(b"").unwrap_err().to_string(), "refused 1 at 0: the file has under 8 bytes");
+    assert_eq!(first_byte(b"").unwrap_err().to_string(), "refused 1 at 0: file under 8 bytes");
     let error: &dyn core::error::Error = &Refusal { number: Refusal::NO_GLYPH, place: 0 };
-    assert_eq!(error.to_string(), "refused 9 at 0: the font has no glyph for this code");
+    assert_eq!(error.to_string(), "refused 9 at 0: no glyph for this code");
     assert!(error.source().is_none());
 }
