@@ -1,7 +1,7 @@
 -- What the exported functions do in a mode: in mode 0 they are the library's, a page with its own line length; in an unknown one they are
 -- refused, 6 for a record that does not fit the bytes, else 15.
 use mathlib.Core.Path.{_≡_, refl}
-use mathlib.Core.Bool.{true, false}
+use mathlib.Core.Bool.{false}
 use mathlib.Core.List.{List}
 use Prim.Native.Nat.{ℕ}
 use lib.Dec.{leb}

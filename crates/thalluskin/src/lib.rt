@@ -2,8 +2,8 @@
 // other languages have. Bytes, texts and buffers are a pointer and a length; the record, a drawing's numbers
 // and the answers are structs by value. `include/thalluskin.h` says all this to C.
 //
-// Every answer begins with `refusal`, the refusal's number or 0 for none, and `place`; then come the values,
-// which on a refusal are 0. A mode other than 0 is refused (15).
+// Every answer but the version begins with `refusal`, the refusal's number or 0 for none, and `place`; then come
+// the values, which on a refusal are 0. A mode other than 0 is refused (15).
 mod drawing;
 mod modes;
 mod placing;
