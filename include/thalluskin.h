@@ -686,8 +686,8 @@ static inline thk_text_answer thk_text_check(const uint8_t *font, uint64_t font_
                THK_GIVE(&numbers));
 }
 
-/* The character at byte `i`, and where the next one starts. At or past the text's end `i` is the end. The text may have
- * any length here. Refused 19, with `i` as the place. */
+/* The character at byte `i`, and where the next one starts; at or past the text's end there is none, and `found` is 0.
+ * The text may have any length here. Refused 19, with `i` as the place. */
 static inline thk_step_answer thk_utf8_step(const uint8_t *text, uint64_t text_len, uint64_t i)
 {
     THK_ANSWER(thk_step_answer, utf8_step, text, text_len, i);

@@ -4,8 +4,8 @@ import os
 import socket
 
 import model
+from command.refusals import meaning
 from command.script import SCRIPT, expect, run, store
-from common import fail
 from dump import make
 from panel import expected as panel
 from pcf import orders
@@ -60,9 +60,7 @@ def made_fonts(folder):
             expect(name, got, 0, output, None)
         else:
             seen.add(output)
-            expect(name, got, 1, output, name + " is refused: ")
-            if b"as the dump takes it" in got.stderr:
-                fail("%s: no words for this refusal" % name)
+            expect(name, got, 1, output, "%s is refused: %s\n" % (name, meaning(int(output.split()[1]))))
 
 
 def unusable(folder):

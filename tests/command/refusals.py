@@ -17,7 +17,8 @@ def meaning(number):
         11: ", of a code's glyph or of the font's bounds; often a left bearing or an ascent below 0",
         15: "; a scale may be 1 to 64",
     }
-    return c_words()[number] + added.get(number, "")
+    words = c_words()[number]
+    return (words.partition(";")[0] if number == 6 else words) + added.get(number, "")
 
 
 def standing(r):

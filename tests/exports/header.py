@@ -12,8 +12,8 @@ INCLUDE = os.path.join(ROOT, "include")
 IN_HEADER_ALONE = {"thk_page", "thk_cells"}
 SERVED = ["thumbv7em-none-eabi", "thumbv6m-none-eabi", "riscv32-unknown-elf", "riscv64-unknown-elf",
           "aarch64-linux-gnu", "wasm32-unknown-unknown", "x86_64-linux-gnu"]
-# another order of bytes, and uint64_t at multiples of 4
-NOT_SERVED = ["powerpc64-linux-gnu", "i386-linux-gnu"]
+# another order of bytes, and uint64_t at multiples of 4, with words of why the header is refused there
+NOT_SERVED = {"powerpc64-linux-gnu": "little-endian byte order", "i386-linux-gnu": "another layout than the archive's"}
 SILENT, ASSERTING = "c99", ("c11", "c17", "c++11", "c++17")
 
 
@@ -84,11 +84,12 @@ def processors(at, folder):
     """the kit's clang takes the header for each processor that it serves, and for no other"""
     source = os.path.join(folder, "empty.c")
     freestanding = ["-ffreestanding", "-isystem", library.run(at.prefix + "gcc", "-print-file-name=include").strip()]
-    for target in SERVED + NOT_SERVED:
+    for target in [*SERVED, *NOT_SERVED]:
         got = run(library.compiler(), "--target=" + target, "-std=c11", "-Wall", "-Wextra", "-Werror", "-pedantic",
                   *freestanding, "-I", INCLUDE, "-fsyntax-only", source)
-        if (got.returncode == 0) != (target in SERVED):
-            fail("the header for %s: %s" % (target, got.stderr.decode()[-2000:]))
+        said = got.stderr.decode()
+        if (got.returncode == 0) != (target in SERVED) or NOT_SERVED.get(target, "") not in said:
+            fail("the header for %s: %s" % (target, said[-2000:]))
 
 
 def limits(at, folder):

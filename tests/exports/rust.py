@@ -126,7 +126,7 @@ def rust(folder, archive):
     declarations()
     linted = "clippy is not installed"
     if run("cargo", "clippy", "--version", env=words).returncode == 0:
-        cargo("clippy", "--all-targets")
+        cargo("clippy", "--all-targets", "--", "-D", "warnings")
         linted = "clippy passes"
     shapes = "with structs lent"
     if archive == ARCHIVE:

@@ -29,8 +29,8 @@ use crate::{Refusal, PLAIN};
 ///
 /// `stride` is 1 to [`MAX_STRIDE`](crate::MAX_STRIDE), `scale` 1 to [`MAX_SCALE`](crate::MAX_SCALE), `start` at most
 /// [`MAX_START`](crate::MAX_START), a given width, height or pad at most [`MAX_BOX`](crate::MAX_BOX), and `mode` 0; 15
-/// refuses all else. The calls that take no page are made in mode 0. A glyph is without a bitmap if its number is at or
-/// above the bitmap count (12).
+/// refuses all else. The calls that take neither a page nor a [`Drawing`] nor [`Cells`] are made in mode 0. A glyph is
+/// without a bitmap if its number is at or above the bitmap count (12).
 ///
 /// # Texts
 ///
