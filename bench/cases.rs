@@ -1,12 +1,10 @@
 //! What is measured: a call that each of its sides makes with the same arguments.
-use crate::structs::{PageNumbers, Record};
+use crate::structs::{PageNumbers, Record, PLAIN};
 use crate::{calls, plain};
 use original::LoadedPCF;
 
 pub const COLOUR: u32 = 0x00C0_FFEE;
 pub const NO_WRAP: u64 = u64::MAX;
-/// The port's one mode, which the other sides do not have.
-pub const PLAIN: u32 = 0;
 
 /// The numbers of a drawing from a page's first pixel on, as the port takes them.
 pub fn numbers(stride: usize, scale: usize, wrap: u64) -> PageNumbers {

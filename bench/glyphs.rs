@@ -1,7 +1,7 @@
 //! Calls with a placed glyph, made for each printable ASCII character.
 use crate::calls;
-use crate::cases::{numbers, on_cleared, Case, Drawing, Font, Side, COLOUR, NO_WRAP, PLAIN};
-use crate::structs::{CharCode, GlyphInfo, PageNumbers, Rows, RowsAnswer, UnpackAnswer};
+use crate::cases::{numbers, on_cleared, Case, Drawing, Font, Side, COLOUR, NO_WRAP};
+use crate::structs::{CharCode, GlyphInfo, PageNumbers, Rows, RowsAnswer, UnpackAnswer, PLAIN};
 use std::hint::black_box;
 
 /// The characters as the port and 000 place them. The loops in C take the port's.

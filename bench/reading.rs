@@ -1,7 +1,7 @@
 //! What is asked of a font without drawing.
 use crate::calls;
-use crate::cases::{Case, Font, Side, PLAIN};
-use crate::structs::CharCode;
+use crate::cases::{Case, Font, Side};
+use crate::structs::{CharCode, PLAIN};
 use original::{plain, LoadedPCF};
 use std::hint::black_box;
 

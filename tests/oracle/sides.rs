@@ -1,7 +1,7 @@
 //! The two sides, asked the same: 000, whose panics are caught, and the port.
 use crate::asked::{Call, Function::*};
 use crate::calls;
-use crate::structs::{Bitmap, CharCode, GlyphIndex, GlyphInfo, Metrics, PageNumbers, Record};
+use crate::structs::{Bitmap, CharCode, GlyphIndex, GlyphInfo, Metrics, PageNumbers, Record, PLAIN};
 use original::plain::{self, Fields};
 use original::LoadedPCF;
 use std::panic::{catch_unwind, AssertUnwindSafe};
@@ -131,9 +131,6 @@ pub fn caught<T>(ask: impl FnOnce() -> T) -> Option<T> {
 }
 
 pub const COLOUR: u32 = 0x00C0_104E;
-
-/// the port's one mode, which 000 does not have
-pub const PLAIN: u32 = 0;
 
 /// what a pixel is before the call: no two are the same
 pub fn before(i: usize) -> u32 {

@@ -6,7 +6,8 @@ use crate::compare::{hold, Verdict};
 use crate::departures;
 use crate::orders;
 use crate::reading::{self, Drawing, Slot};
-use crate::sides::{their, Given, Kind, Pair, PLAIN};
+use crate::sides::{their, Given, Kind, Pair};
+use crate::structs::PLAIN;
 use crate::tally::Tally;
 
 const MOST_PIXELS: usize = 1 << 20;

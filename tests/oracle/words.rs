@@ -1,7 +1,8 @@
 //! Answers in words, for differences and for the listed departures.
 use crate::asked::{Call, Function, Function::*};
 use crate::calls;
-use crate::sides::{before, caught, our, their, Aligned, Given, Kind, Theirs, Values, PLAIN};
+use crate::sides::{before, caught, our, their, Aligned, Given, Kind, Theirs, Values};
+use crate::structs::PLAIN;
 use crate::twins;
 use original::plain;
 

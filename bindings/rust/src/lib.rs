@@ -33,9 +33,9 @@ mod structs;
 mod tests;
 
 pub use font::{utf8_step, version, Font, Property, Value, VERSION};
-pub use page::{Cells, Drawing, Page, MAX_BOX, MAX_SCALE, MAX_START, MAX_STRIDE, MAX_TEXT, PLAIN};
+pub use page::{Cells, Drawing, Page, MAX_BOX, MAX_SCALE, MAX_START, MAX_STRIDE, MAX_TEXT};
 pub use refusal::Refusal;
 pub use structs::{
     Accelerators, Bitmap, BitmapData, CharCode, EncodingData, Extent, GlyphIndex, GlyphInfo, GlyphNameData, Metrics,
-    MetricsData, PropertiesData, Record, Rows, TextRows,
+    MetricsData, PropertiesData, Record, Rows, TextRows, PLAIN,
 };

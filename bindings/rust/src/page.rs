@@ -1,5 +1,5 @@
 use crate::calls::length;
-use crate::structs::PageNumbers;
+use crate::structs::{PageNumbers, PLAIN};
 
 /// The greatest `stride`; the least is 1.
 ///
@@ -61,18 +61,6 @@ pub const MAX_TEXT: u64 = 65_535;
 /// # Ok::<(), thalluskin::Refusal>(())
 /// ```
 pub const MAX_BOX: u64 = 32_767;
-
-/// The mode of a drawing as [`Font`](crate::Font) describes it, the only one so far: a call in another is refused (15).
-///
-/// ```
-/// # use thalluskin::{Drawing, Font, Refusal, PLAIN};
-/// # let file = include_bytes!("../../../examples/f.pcf");
-/// let font = Font::load(file)?;
-/// assert!(font.check("0", 9, Drawing::new(3).mode(PLAIN)).is_ok());
-/// assert_eq!(font.check("0", 9, Drawing::new(3).mode(1)).unwrap_err().number, Refusal::BAD_ARGUMENT);
-/// # Ok::<(), thalluskin::Refusal>(())
-/// ```
-pub const PLAIN: u32 = 0;
 
 /// The numbers of a drawing, without its pixels: what a dry run needs, and what can be kept for many drawings.
 ///

@@ -1,6 +1,18 @@
 //! The numbers that go into the library and come out of it, laid out as C does. Places and lengths have 64 bits on
 //! every processor.
 
+/// The mode of a drawing as [`Font`](crate::Font) describes it, the only one so far: a call in another is refused (15).
+///
+/// ```
+/// # use thalluskin::{Drawing, Font, Refusal, PLAIN};
+/// # let file = include_bytes!("../../../examples/f.pcf");
+/// let font = Font::load(file)?;
+/// assert!(font.check("0", 9, Drawing::new(3).mode(PLAIN)).is_ok());
+/// assert_eq!(font.check("0", 9, Drawing::new(3).mode(1)).unwrap_err().number, Refusal::BAD_ARGUMENT);
+/// # Ok::<(), thalluskin::Refusal>(())
+/// ```
+pub const PLAIN: u32 = 0;
+
 /// A character's code. A `char` becomes one wherever a code is asked for.
 #[repr(C)]
 #[cfg_attr(test, derive(Default))]

@@ -1,7 +1,7 @@
 -- What a caller in C reads off an exported function's answer is what document 01 says of the library's: number and place on a refusal, and
 -- the values where `refusal` is 0.
 use mathlib.Core.Path.{_≡_, refl}
-use mathlib.Core.Bool.{Bool, true, false, cond}
+use mathlib.Core.Bool.{true, false, cond}
 use mathlib.Core.List.{List}
 use Prim.Native.Nat.{ℕ, zero, suc}
 use lib.IntN.{ℤ}
@@ -140,15 +140,10 @@ pub load-says : (s : List ℕ) → saysFont (fontAnswer (recordOf s false)) ≡ 
 unfolding recordOf
 load-says s = font-read (loaded s) (nought-answers refl (load-pcf-refusals s))
 
--- in an unknown mode 15, and nothing is read
-pub vet-says : (s : List ℕ) (mode : ℕ)
-    → saysFont (fontAnswer (cond (isKnown mode) (recordOf s true) (Loaded.Refused (refusal 15 0)))) ≡ cond (isKnown mode) (saidVetted (vetted s)) (refuses (refusal 15 0))
+-- in mode 0; in any other number it is `vet-unknown`
+pub vet-says : (s : List ℕ) → saysFont (fontAnswer (cond (isKnown 0) (recordOf s true) (Loaded.Refused (refusal 15 0)))) ≡ saidVetted (vetted s)
 unfolding recordOf
-vet-says s mode = by (isKnown mode) where
-  by : (known : Bool)
-      → saysFont (fontAnswer (cond known (asLoaded (vetted s)) (Loaded.Refused (refusal 15 0)))) ≡ cond known (saidVetted (vetted s)) (refuses (refusal 15 0))
-  by true = vet-read (vetted s) (nought-answers refl (vet-refusals s))
-  by false = refl
+vet-says s = vet-read (vetted s) (nought-answers refl (vet-refusals s))
 
 pub property-says : (s : List ℕ) (rec : Record) (number : ℕ) → saysProperty (propertyAnswer (propAt s rec number)) ≡ saidProp (propAt s rec number)
 property-says s rec number = property-read (propAt s rec number) (nought-answers refl (prop-at-refusals s rec number .numbered))

@@ -1,15 +1,18 @@
--- What the exported functions do in a mode: in mode 0 they are the library's, a page with its own line length; in an unknown one they are
--- refused, 6 for a record that does not fit the bytes, else 15.
-use mathlib.Core.Path.{_≡_, refl}
-use mathlib.Core.Bool.{false}
+-- What the exported functions do in a mode: in mode 0 they are the library's, a page with its own line length; in any other number they are
+-- refused, 6 for a record that does not fit the bytes, else 15, and vetting 15.
+use mathlib.Core.Path.{_≡_, refl, sym}
+use mathlib.Core.Bool.{true, false, cond}
 use mathlib.Core.List.{List}
 use Prim.Native.Nat.{ℕ}
+use borrow.Author.Tests.{ne-eqb}
 use lib.Dec.{leb}
 use lib.ListN.{length}
+use Rattle.reads.specs.Said.{refusal}
 use Rattle.reads.specs.declared.Refusal.{Refusal}
 use Rattle.reads.proofs.Tests.{split}
 use Rattle.tables.specs.Fits.{recordFits, guarded, ladder}
 use Rattle.tables.specs.declared.Record.{Record}
+use Rattle.load.specs.declared.Loaded.{Loaded}
 use Rattle.lookup.specs.Lookup.{glyphOf, getGlyph}
 use Rattle.lookup.specs.declared.Found.{Found}
 use Rattle.bitmaps.specs.Place.{placeAt}
@@ -30,8 +33,10 @@ use Rattle.thalluskin.specs.Modes.{isKnown, strideOf}
 use Rattle.thalluskin.specs.Drawing.{placeOf}
 use Rattle.thalluskin.specs.Texts.{layoutOf}
 use Rattle.thalluskin.specs.declared.PageNumbers.{PageNumbers}
-use Rattle.thalluskin.proofs.Strides.{stride-unknown}
+use Rattle.thalluskin.proofs.Strides.{stride-known, stride-unknown}
 use Rattle.promises.specs.Exported.{unknownMode}
+
+-- in mode 0
 
 pub glyph-plain : (s : List ℕ) (rec : Record) (code : ℕ) → guarded Found.Refused s rec (isKnown 0) (glyphOf s (rec .codes) code) ≡ getGlyph s rec code
 unfolding getGlyph
@@ -41,42 +46,48 @@ pub prep-char-plain : (s : List ℕ) (rec : Record) (code : ℕ) → guarded Pre
 unfolding prepChar
 prep-char-plain s rec code = refl
 
-no-lines : (p scale : ℕ) → okPlace (placeAt p 0 scale) ≡ false
-no-lines p scale = split (leb p 2147483647) (λ t. rw t refl) (λ t. rw t refl)
+pub stride-plain : (page : PageNumbers) → page .mode ≡ 0 → page .stride ≡ strideOf page
+stride-plain page plain = stride-known page true (rw plain refl) refl
+
+-- in any other number
+
+not-known : (mode : ℕ) → (mode ≡ 0 → ⊥) → isKnown mode ≡ false
+not-known mode other = ne-eqb mode 0 other
+
+-- of vetting, whatever the font is
+pub vet-unknown : (mode : ℕ) (vetted : Loaded) → (mode ≡ 0 → ⊥)
+    → cond (isKnown mode) vetted (Loaded.Refused (refusal 15 0)) ≡ Loaded.Refused (refusal 15 0)
+vet-unknown mode vetted other = rw (not-known mode other) refl
 
 -- of a call that looks a glyph up or places one
-pub guarded-unknown : {A : Type 0} (refused : Refusal → A) (s : List ℕ) (rec : Record) (mode : ℕ) (answer : A) → isKnown mode ≡ false
+pub guarded-unknown : {A : Type 0} (refused : Refusal → A) (s : List ℕ) (rec : Record) (mode : ℕ) (answer : A) → (mode ≡ 0 → ⊥)
     → guarded refused s rec (isKnown mode) answer ≡ refused (unknownMode s rec)
-guarded-unknown refused s rec mode answer unknown = rw unknown (split (recordFits (length s) rec) (λ t. rw t refl) (λ t. rw t refl))
+guarded-unknown refused s rec mode answer other =
+    rw (not-known mode other) (split (recordFits (length s) rec) (λ t. rw t refl) (λ t. rw t refl))
 
--- of one that draws or unpacks
-module _ (s : List ℕ) (rec : Record) (page : PageNumbers) (unknown : isKnown (page .mode) ≡ false) where
+-- of one that draws or unpacks: a page without lines is outside the limits
+module _ (s : List ℕ) (rec : Record) (page : PageNumbers) (other : page .mode ≡ 0 → ⊥) where
+  unlined : (scale : ℕ) → okPlace (placeAt (page .start) (strideOf page) scale) ≡ false
+  unlined scale =
+      rw (← stride-unknown page false (sym (not-known (page .mode) other)) refl)
+      (split (leb (page .start) 2147483647) (λ t. rw t refl) (λ t. rw t refl))
+
   pub draw-bitmap-unknown : (g width height len : ℕ) → drawBitmap s rec g width height len (placeOf page) ≡ Drawn.Refused (unknownMode s rec)
   unfolding drawBitmap bitmapReady
-  draw-bitmap-unknown g width height len =
-      rw (← stride-unknown page (isKnown (page .mode)) refl unknown, no-lines (page .start) (page .scale))
-      (split (recordFits (length s) rec) (λ t. rw t refl) (λ t. rw t refl))
+  draw-bitmap-unknown g width height len = rw (unlined (page .scale)) (split (recordFits (length s) rec) (λ t. rw t refl) (λ t. rw t refl))
 
   pub draw-glyph-unknown : (info : GlyphInfo) (len : ℕ) → drawGlyph s rec info len (placeOf page) ≡ Drawn.Refused (unknownMode s rec)
   unfolding drawGlyph glyphReady ladder
-  draw-glyph-unknown info len =
-      rw (← stride-unknown page (isKnown (page .mode)) refl unknown, no-lines (page .start) (page .scale))
-      (split (recordFits (length s) rec) (λ t. rw t refl) (λ t. rw t refl))
+  draw-glyph-unknown info len = rw (unlined (page .scale)) (split (recordFits (length s) rec) (λ t. rw t refl) (λ t. rw t refl))
 
   pub draw-char-unknown : (code len : ℕ) → drawChar s rec code len (placeOf page) ≡ CharDrawn.Refused (unknownMode s rec)
   unfolding drawChar charReady
-  draw-char-unknown code len =
-      rw (← stride-unknown page (isKnown (page .mode)) refl unknown, no-lines (page .start) (page .scale))
-      (split (recordFits (length s) rec) (λ t. rw t refl) (λ t. rw t refl))
+  draw-char-unknown code len = rw (unlined (page .scale)) (split (recordFits (length s) rec) (λ t. rw t refl) (λ t. rw t refl))
 
   pub unpack-glyph-unknown : (info : GlyphInfo) (len : ℕ) → unpackGlyph s rec info len (page .start) (strideOf page) ≡ Unpacked.Refused (unknownMode s rec)
   unfolding unpackGlyph glyphReady ladder
-  unpack-glyph-unknown info len =
-      rw (← stride-unknown page (isKnown (page .mode)) refl unknown, no-lines (page .start) 1)
-      (split (recordFits (length s) rec) (λ t. rw t refl) (λ t. rw t refl))
+  unpack-glyph-unknown info len = rw (unlined 1) (split (recordFits (length s) rec) (λ t. rw t refl) (λ t. rw t refl))
 
   pub draw-string-unknown : (text : List ℕ) (len : ℕ) → drawString s rec text len (layoutOf page) ≡ TextDrawn.Refused (unknownMode s rec)
   unfolding drawString ready
-  draw-string-unknown text len =
-      rw (← stride-unknown page (isKnown (page .mode)) refl unknown, no-lines (page .start) (page .scale))
-      (split (recordFits (length s) rec) (λ t. rw t refl) (λ t. rw t refl))
+  draw-string-unknown text len = rw (unlined (page .scale)) (split (recordFits (length s) rec) (λ t. rw t refl) (λ t. rw t refl))
