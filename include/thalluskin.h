@@ -3,10 +3,11 @@
  *
  *     cc program.c -I include target/staticlib/libthalluskin.a
  *
- * `rt staticlib thalluskin` makes the archive, for x86-64 Linux. It needs SSE registers, memcpy and memset, and nothing
- * else. It holds no state, allocates nothing and keeps no pointer, so that any number of threads may call it. One
- * header serves every processor that has its bytes in little-endian order and puts a uint64_t at a multiple of 8, those
- * of 32 bits too.
+ * `rt staticlib thalluskin` makes the archive for x86-64 Linux, which needs SSE registers, memcpy and memset, and
+ * nothing else; `./thalluskin build` makes it for Cortex-M, RISC-V, aarch64 and WebAssembly, and says what the linker
+ * has to add there. It holds no state, allocates nothing and keeps no pointer, so that any number of threads may call
+ * it. One header serves every processor that has its bytes in little-endian order and puts a uint64_t at a multiple of
+ * 8, those of 32 bits too, where each font, text and buffer is under 2 GiB.
  *
  * A font is the bytes of its file, which stay the caller's, and the record that thk_load or thk_vet gives for them;
  * each call takes both. Every call has an answer for every font, record, text and number, a record that was made up
@@ -27,7 +28,8 @@
  *         thk_draw_char 900; thk_draw_bitmap 900; thk_draw_glyph 800; thk_unpack_glyph 400
  *         thk_prep_char 700; thk_metrics 300; thk_property 200; each of the others 100
  *
- *     and its caller some 500 for the answer and for copies of the record and of a page's numbers.
+ *     and its caller some 500 for the answer and for copies of the record and of a page's numbers. docs/TARGETS.md has
+ *     the figures of other processors.
  *
  * The archive has no tables to unwind its frames by: it throws nothing and calls nothing of its caller's, so that no
  * exception passes through it. A debugger that stops inside it may not see who called.
@@ -698,13 +700,13 @@ static inline thk_step_answer thk_utf8_step(const uint8_t *text, uint64_t text_l
 #undef THK_STRUCT
 #undef THK_GIVE
 
-/* ---- The layout that the archive has. C99 has no assertions, and says nothing here. */
+/* ---- The layout that the archive has. C99 has no assertions; there no array has -1 elements. */
 #if defined(__cplusplus) && __cplusplus >= 201103L
 #define THK_ASSERT(holds) static_assert(holds, "thalluskin: another layout than the archive's")
 #elif !defined(__cplusplus) && defined(__STDC_VERSION__) && __STDC_VERSION__ >= 201112L
 #define THK_ASSERT(holds) _Static_assert(holds, "thalluskin: another layout than the archive's")
 #else
-#define THK_ASSERT(holds) struct thk_nothing
+#define THK_ASSERT(holds) extern const char thk_another_layout_than_the_archive_s[(holds) ? 1 : -1]
 #endif
 #define THK_SIZE(type, bytes) THK_ASSERT(sizeof(type) == (bytes))
 #define THK_AT(type, field, bytes) THK_ASSERT(offsetof(type, field) == (bytes))

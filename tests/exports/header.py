@@ -14,7 +14,7 @@ SERVED = ["thumbv7em-none-eabi", "thumbv6m-none-eabi", "riscv32-unknown-elf", "r
           "aarch64-linux-gnu", "wasm32-unknown-unknown", "x86_64-linux-gnu"]
 # another order of bytes, and uint64_t at multiples of 4, with words of why the header is refused there
 NOT_SERVED = {"powerpc64-linux-gnu": "little-endian byte order", "i386-linux-gnu": "another layout than the archive's"}
-SILENT, ASSERTING = "c99", ("c11", "c17", "c++11", "c++17")
+IN_C, IN_CPP = ["c99", "c11", "c17"], ["c++11", "c++17"]
 
 
 def c_refusals():
@@ -54,10 +54,10 @@ def declared(text):
 
 
 def dialects(at, folder, text):
-    """how many compile it without a warning; with a wrong assertion all refuse it that can"""
-    tried = [dialect for dialect in (SILENT, *ASSERTING) if "+" not in dialect]
+    """how many compile it without a warning; with a wrong assertion all refuse it"""
+    tried = IN_C
     if has(at.prefix + "g++", at.package("g++")):
-        tried = [SILENT, *ASSERTING]
+        tried = IN_C + IN_CPP
     else:
         print("exports: the header was not tried in C++, because there is no %sg++" % at.prefix)
     source, wrong = os.path.join(folder, "empty"), os.path.join(folder, "wrong")
@@ -68,13 +68,13 @@ def dialects(at, folder, text):
         compiler, suffix = ("g++", ".cc") if "+" in dialect else ("gcc", ".c")
         with open(source + suffix, "w") as f:
             f.write('#include "thalluskin.h"\nint main(void) { return thk_utf8_step(0, 0, 0).found; }\n')
-        for include, holds in ((INCLUDE, True), (wrong, dialect == SILENT)):
+        for include, holds in ((INCLUDE, True), (wrong, False)):
             for lent in ([], ["-DTHK_LENT"]):
                 got = run(at.prefix + compiler, "-std=" + dialect, "-Wall", "-Wextra", "-Wconversion", "-Werror",
                           "-pedantic", *lent, "-I", include, "-c", source + suffix, "-o", source + ".o")
                 if (got.returncode == 0) != holds:
                     fail("the header in %s, right %s: %s" % (dialect, holds, got.stderr.decode()[-2000:]))
-    if len(tried) > len(ASSERTING):
+    if tried != IN_C:
         must("the header in C++", at.prefix + "g++", "-std=c++11", "-I", INCLUDE, source + ".cc", ARCHIVE, "-o",
              os.path.join(folder, "cc"))
     return len(tried)
@@ -85,11 +85,12 @@ def processors(at, folder):
     source = os.path.join(folder, "empty.c")
     freestanding = ["-ffreestanding", "-isystem", library.run(at.prefix + "gcc", "-print-file-name=include").strip()]
     for target in [*SERVED, *NOT_SERVED]:
-        got = run(library.compiler(), "--target=" + target, "-std=c11", "-Wall", "-Wextra", "-Werror", "-pedantic",
-                  *freestanding, "-I", INCLUDE, "-fsyntax-only", source)
-        said = got.stderr.decode()
-        if (got.returncode == 0) != (target in SERVED) or NOT_SERVED.get(target, "") not in said:
-            fail("the header for %s: %s" % (target, said[-2000:]))
+        for dialect in ("c99", "c11"):
+            got = run(library.tool("clang"), "--target=" + target, "-std=" + dialect, "-Wall", "-Wextra", "-Werror",
+                      "-pedantic", *freestanding, "-I", INCLUDE, "-fsyntax-only", source)
+            said = got.stderr.decode().replace("another_layout_than_the_archive_s", "another layout than the archive's")
+            if (got.returncode == 0) != (target in SERVED) or NOT_SERVED.get(target, "") not in said:
+                fail("the header for %s: %s" % (target, said[-2000:]))
 
 
 def limits(at, folder):
