@@ -1,8 +1,9 @@
 #!/usr/bin/env python3
-"""Makes the meter's font, meter-font/meter.hex, from the drawing of its letters in meter-font/letters.txt: a PCF file
-as lines of hexadecimal digits, which is what the dump program reads.
+"""Makes the meter's font from the drawing of its letters in meter-font/letters.txt. It is one font in two forms: the
+PCF file meter-font/meter.pcf, and meter-font/meter.hex, the same bytes as lines of hexadecimal digits, which is what
+the dump program reads.
 
-Without arguments it says whether meter.hex is what the drawing gives; with --write it stores that."""
+Without arguments it says whether both are what the drawing gives; with --write it stores that."""
 import os
 import re
 import sys
@@ -15,7 +16,7 @@ from pcf import tables  # noqa: E402
 from pcf.numbers import NO_GLYPH, TOP, lines  # noqa: E402
 
 LETTERS = os.path.join(HERE, "letters.txt")
-FONT = os.path.join(HERE, "meter.hex")
+HEX, PCF = os.path.join(HERE, "meter.hex"), os.path.join(HERE, "meter.pcf")
 PROPERTIES = [("FONT", "Thalluskin Meter"), ("FAMILY_NAME", "Meter"), ("PIXEL_SIZE", 10), ("FONT_ASCENT", 7),
               ("FONT_DESCENT", 3)]
 BASE = 7            # rows above the base line
@@ -141,8 +142,13 @@ def font_of(found):
 
 def stored_font():
     """the bytes of the stored font"""
-    with open(FONT, encoding="ascii") as f:
+    with open(HEX, encoding="ascii") as f:
         return bytes.fromhex(f.read())
+
+
+def forms(font):
+    """what each of the two files has to hold"""
+    return {HEX: lines(font).encode("ascii"), PCF: font}
 
 
 def main():
@@ -150,14 +156,17 @@ def main():
         found = letters(f.read())
     tell_apart(found)
     made = font_of(found)
-    if sys.argv[1:] == ["--write"]:
-        with open(FONT, "w", encoding="ascii") as f:
-            f.write(lines(made))
-    elif sys.argv[1:]:
+    if sys.argv[1:] not in ([], ["--write"]):
         fail("make.py takes --write or nothing")
-    with open(FONT, encoding="ascii") as f:
-        if f.read() != lines(made):
-            fail("meter-font/meter.hex is not what meter-font/letters.txt gives")
+    for file, content in forms(made).items():
+        if sys.argv[1:]:
+            with open(file, "wb") as f:
+                f.write(content)
+        if not os.path.exists(file):
+            fail("meter-font/%s is not there; make.py --write makes it" % os.path.basename(file))
+        with open(file, "rb") as f:
+            if f.read() != content:
+                fail("meter-font/%s is not what meter-font/letters.txt gives" % os.path.basename(file))
     print("font: %d letters, %d bytes, as they are drawn" % (len(found), len(made)))
 
 

@@ -7,7 +7,8 @@ from common import fail
 
 def helped(folder):
     text = run("help", folder=folder).stdout
-    if any(b"thalluskin " + command not in text for command in (b"dump FONT.pcf", b"show TEXT", b"bench", b"help")):
+    commands = b"dump FONT.pcf", b"show TEXT", b"record FONT.pcf [NAME]", b"build TARGET", b"bench", b"help"
+    if any(b"\nthalluskin " + command not in b"\n" + text for command in commands):
         fail("help does not name the commands")
     for words in ([], ["help"], ["--help"], ["-h"], ["show", "--help"]):
         expect("help by %s" % words, run(*words, folder=folder), 0, text, None)

@@ -7,15 +7,15 @@ import tempfile
 
 sys.path.insert(0, os.path.dirname(os.path.dirname(os.path.abspath(__file__))))
 
-from command import dumps, help_and_bench, pictures, readme, refusals, script, shows  # noqa: E402
+from command import builds, dumps, help_and_bench, pictures, readme, records, refusals, script, shows  # noqa: E402
 from pcf.font_f import two_digits  # noqa: E402
 
 
 def main():
     with tempfile.TemporaryDirectory() as folder:
-        # the first runs may build the programs, and say so
+        # the first runs may build the programs and the library, and say so
         script.store(folder, "first.pcf", two_digits())
-        for words in (["dump", "first.pcf"], ["show", "12"]):
+        for words in (["dump", "first.pcf"], ["show", "12"], ["record", "first.pcf"]):
             if script.run(*words, folder=folder, error=None).returncode != 0:
                 sys.exit(1)
         dumps.good(folder)
@@ -26,6 +26,13 @@ def main():
         refusals.not_asked(folder)
         pictures.pictures(folder)
         refusals.no_room(folder)
+        records.compiled(folder)
+        records.refused(folder)
+        records.named(folder)
+        records.unusable(folder)
+        builds.listed(folder)
+        builds.built(folder)
+        builds.unusable(folder)
         help_and_bench.helped(folder)
         help_and_bench.benched(folder)
         readme.commands()
