@@ -1,5 +1,6 @@
 """Calls of the exported functions, and what the model of document 01 answers to each."""
 import random
+import struct
 
 import model
 from dump import make as dump
@@ -112,9 +113,13 @@ def encoded(c, same_font):
     """as replay.c reads it"""
     words = [KINDS.index(c["function"]), LAST if same_font else len(c["font"]), len(c["text"]), len(c["buf"])]
     words += [c.get(name, 0) for name in NUMBERS]
-    size = 1 if c["function"] == "thk_unpack_glyph" else 4
-    return (b"".join(calls.low_bytes(n, 8) for n in words) + layouts.put("Record", c["rec"])
-            + (b"" if same_font else c["font"]) + c["text"] + b"".join(calls.low_bytes(n, size) for n in c["buf"]))
+    return (struct.pack("<%dQ" % len(words), *words) + layouts.put("Record", layouts.flat("Record", c["rec"]))
+            + (b"" if same_font else c["font"]) + c["text"] + stored(c, c["buf"]))
+
+
+def stored(c, buf):
+    """the bytes of a call's buffer"""
+    return struct.pack("<%d%s" % (len(buf), "B" if c["function"] == "thk_unpack_glyph" else "I"), *buf)
 
 
 # ---- the calls

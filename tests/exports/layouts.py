@@ -1,5 +1,6 @@
 """The exported structs and functions as the Rattle sources declare them: where #[repr(C)] puts each field, and what
 each is called in C and in Rust."""
+import functools
 import os
 import re
 
@@ -63,6 +64,7 @@ def in_header(name):
 STRUCTS = declared()
 
 
+@functools.lru_cache(maxsize=None)
 def size_and_alignment(kind):
     if kind in PLAIN:
         return PLAIN[kind][0], PLAIN[kind][0]
@@ -87,21 +89,30 @@ def size_of(kind):
     return size_and_alignment(kind)[0]
 
 
-def leaves(kind, start=0, path=()):
+@functools.lru_cache(maxsize=None)
+def leaves(kind):
     """the numbers in a struct: path, offset, type"""
+    found = []
     for name, offset, of in fields(kind):
-        if of in PLAIN:
-            yield path + (name,), start + offset, of
-        else:
-            yield from leaves(of, start + offset, path + (name,))
+        inside = [((), 0, of)] if of in PLAIN else leaves(of)
+        found += [((name, *path), offset + further, number) for path, further, number in inside]
+    return found
 
 
-def put(kind, value, padding=0xCC):
-    """the struct's bytes; those that belong to no field are `padding`"""
+def put(kind, numbers, padding=0xCC):
+    """the struct's bytes, of its numbers by their paths; those that belong to no field are `padding`"""
     made = bytearray([padding]) * size_of(kind)
     for path, offset, of in leaves(kind):
         size, sort = PLAIN[of]
-        made[offset:offset + size] = int(at(value, path)).to_bytes(size, "little", signed=sort == "signed")
+        made[offset:offset + size] = numbers[path].to_bytes(size, "little", signed=sort == "signed")
+    return bytes(made)
+
+
+def in_fields(kind):
+    """a byte for each of the struct's, 255 where it belongs to a field and 0 where it is padding"""
+    made = bytearray(size_of(kind))
+    for _, offset, of in leaves(kind):
+        made[offset:offset + PLAIN[of][0]] = b"\xff" * PLAIN[of][0]
     return bytes(made)
 
 

@@ -1,5 +1,6 @@
 """The machine at hand and its tools. The archive is for x86-64: on another machine C programs are cross-compiled and
-emulated, and Rust links the library that tests/native makes for it, each where the tools are to be had."""
+emulated, and the calls are replayed again, and Rust tried, with the library that tests/native makes for it, each where
+the tools are to be had."""
 import os
 import platform
 import shutil
@@ -41,9 +42,10 @@ class Native:
         """the Debian package of a command with the prefix"""
         return command
 
-    def build(self, source, program, *options, archive=ARCHIVE):
+    def build(self, source, program, *options, archive=ARCHIVE, beside=()):
+        """a program of a source and of those beside it"""
         must("compiling " + source, self.prefix + "gcc", "-Wall", "-Werror", *options,
-             "-I", os.path.join(ROOT, "include"), source, archive, "-o", program)
+             "-I", os.path.join(ROOT, "include"), source, *beside, archive, "-o", program)
         return [*self.emulator, program]
 
 
@@ -68,7 +70,7 @@ def machine():
             if not has(command, *packages):
                 fail("%s is not there and cannot be installed" % command)
         return Native()
-    emulator = os.path.join(library.kit_home(), "on", platform.machine(), "toolchain", "bin", "qemu-x86_64")
+    emulator = os.path.join(library.home(), "on", platform.machine(), "toolchain", "bin", "qemu-x86_64")
     if not os.path.exists(emulator):
         emulator = "qemu-x86_64" if has("qemu-x86_64", "qemu-user") else None
     if emulator and has("x86_64-linux-gnu-gcc", "gcc-x86-64-linux-gnu", "libc6-dev-amd64-cross"):
@@ -78,7 +80,7 @@ def machine():
 
 def native_archive():
     """the archive that Rust and the README's commands link: on another machine than x86-64 the one that tests/native
-    makes for it. None where the tools are not to be had"""
+    makes for it, which the calls are replayed with too. None where the tools are not to be had"""
     if is_native():
         return ARCHIVE
     tools = (["gcc", "gcc", "libc6-dev"], ["ar", "binutils"], ["cargo", "cargo"])

@@ -5,23 +5,19 @@ import os
 
 from common import TESTS
 from exports import cases, layouts
+from exports.asked import all_asked
 from exports.machine import fail, must
 from native import library
 
-BEYOND, PATTERN = 64, 0xA5  # as replay.c has them
 REFUSAL, PLACE = ("refusal",), ("place",)  # where they stand in every answer
+SOURCE, SYSTEM = (os.path.join(TESTS, "exports", name) for name in ("replay.c", "linux.c"))
 
 
 def replay(at, folder):
     """with the archive, and with what other processors' archives have: the functions that are lent structs"""
-    made = list(cases.all_calls())
-    given = b"".join(cases.encoded(c, k > 0 and c["font"] is made[k - 1]["font"]) for k, c in enumerate(made))
-    wanted = [cases.expected_of(c) for c in made]
-    source, program = os.path.join(TESTS, "exports", "replay.c"), os.path.join(folder, "replay")
-    lent = library.lent(os.path.join(folder, "lent"), at.prefix)
-    for options, archive in (([], library.ARCHIVE), (["-DTHK_LENT"], lent)):
-        built = at.build(source, program, "-Wextra", "-std=c99", "-O1", *options, archive=archive)
-        compare(made, wanted, must("replaying", *built, input=given))
+    replay_with(at, folder, library.ARCHIVE)
+    replay_with(at, folder, library.lent(os.path.join(folder, "lent")), "-DTHK_LENT")
+    made, wanted = all_asked().calls, all_asked().wanted
     answers = collections.defaultdict(list)
     for kind, want, _ in wanted:
         if want[REFUSAL] == 0:
@@ -35,27 +31,19 @@ def replay(at, folder):
     print("exports: %d calls, each made twice in both of the header's shapes, agree with the model" % len(made))
 
 
-def compare(made, wanted, left):
-    """what the program left of each call with what the model wants"""
-    i = 0
-    for c, (kind, want, buf) in zip(made, wanted):
-        size, width = layouts.size_of(kind), 1 if c["function"] == "thk_unpack_glyph" else 4
-        parts = []
-        for length in (8, size, size + BEYOND, width * len(buf)):
-            parts.append(left[i:i + length])
-            i += length
-        shown = {name: c[name] for name in c if name not in ("font", "rec", "buf")}
-        if int.from_bytes(parts[0], "little") != size:
-            fail("%s answers %d bytes" % (c["function"], int.from_bytes(parts[0], "little")))
-        for answer in parts[1:3]:
-            if layouts.got(kind, answer) != want:
-                fail("%s answers %s, the model %s" % (shown, layouts.got(kind, answer), want))
-        if parts[2][size:] != bytes([PATTERN]) * BEYOND:
-            fail("%s writes past its answer" % shown)
-        if parts[3] != b"".join(cases.calls.low_bytes(n, width) for n in buf):
-            fail("%s leaves another buffer than the model" % shown)
-    if i != len(left):
-        fail("replaying wrote more than it was asked")
+def replay_here(at, folder, archive):
+    """with the archive for another machine than x86-64, on that machine"""
+    replay_with(at, folder, archive)
+    print("exports: %d calls of %s, each made twice, agree with the model" % (
+        len(all_asked().calls), os.path.relpath(archive, library.ROOT)))
+
+
+def replay_with(at, folder, archive, *options):
+    program = at.build(SOURCE, os.path.join(folder, "replay"), "-Wextra", "-std=c99", "-O1", *options, archive=archive,
+                       beside=[SYSTEM])
+    wrong = all_asked().wrong(must("replaying", *program, input=all_asked().given))
+    if wrong:
+        fail(wrong)
 
 
 def told_apart(kind, answers):

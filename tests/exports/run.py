@@ -10,9 +10,9 @@ sys.path.insert(0, os.path.dirname(os.path.dirname(os.path.abspath(__file__))))
 
 from exports.example import example  # noqa: E402
 from exports.header import header  # noqa: E402
-from exports.machine import fail, machine, native_archive  # noqa: E402
+from exports.machine import Native, fail, machine, native_archive  # noqa: E402
 from exports.readme import readme  # noqa: E402
-from exports.replayed import replay  # noqa: E402
+from exports.replayed import replay, replay_here  # noqa: E402
 from exports.rust import rust  # noqa: E402
 from exports.stack import stack  # noqa: E402
 from exports.symbols import symbols  # noqa: E402
@@ -25,7 +25,7 @@ def main():
     with tempfile.TemporaryDirectory() as folder:
         if at:
             symbols(at)
-            stack(at)
+            stack()
             header(at, folder)
             replay(at, folder)
             example(at, folder)
@@ -33,6 +33,8 @@ def main():
             print("exports: C was not tried, because no program for x86-64 can be linked and emulated here")
         archive = native_archive()
         if archive:
+            if archive != library.ARCHIVE:
+                replay_here(Native(), folder, archive)
             rust(folder, archive)
             readme(folder, archive)
 

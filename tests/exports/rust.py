@@ -47,11 +47,19 @@ def types():
             fail("the Rust struct %s has other types: %s" % (layouts.rust_struct(kind), found))
 
 
+def put_archive(folder):
+    """an archive that is empty, where only its place matters"""
+    os.makedirs(folder)
+    open(os.path.join(folder, "libthalluskin.a"), "wb").close()
+
+
 def build_script(folder):
     """what the crate's build script says to a target or a folder that it cannot link"""
     script = os.path.join(folder, "build")
     must("the build script", "rustc", "--edition", "2021", os.path.join(CRATE, "build.rs"), "-o", script)
-    right = {"PATH": os.environ["PATH"], "CARGO_MANIFEST_DIR": CRATE, "TARGET": "x86_64-unknown-linux-gnu",
+    empty = os.path.join(folder, "repository", "bindings", "rust")
+    os.makedirs(empty)
+    right = {"PATH": os.environ["PATH"], "CARGO_MANIFEST_DIR": empty, "TARGET": "x86_64-unknown-linux-gnu",
              "CARGO_CFG_TARGET_ARCH": "x86_64", "CARGO_CFG_TARGET_POINTER_WIDTH": "64",
              "CARGO_CFG_TARGET_ENDIAN": "little", "CARGO_CFG_TARGET_OS": "linux"}
     named = {"THALLUSKIN_LIB": os.path.dirname(ARCHIVE)}
@@ -61,20 +69,26 @@ def build_script(folder):
                 **{"CARGO_CFG_TARGET_" + name: value for name, value in more.items()}}
     arm = of("thumbv7em-none-eabi", "arm", OS="none", POINTER_WIDTH="32")
     tries = [
-        ({}, None), (named, None), ({**arm, **named}, None),
+        ({"CARGO_MANIFEST_DIR": CRATE}, None), (named, None), ({**arm, **named}, None),
+        ({}, "staticlib/libthalluskin.a is not there; `rt staticlib thalluskin` makes it"),
         ({**of("armv7-unknown-linux-gnueabi", "arm"), **named}, None),
         ({"THALLUSKIN_LIB": os.path.join("target", "staticlib")}, "absolute path"),
-        ({"THALLUSKIN_LIB": ""}, "absolute path"), ({"THALLUSKIN_LIB": folder}, "is not there"),
+        ({"THALLUSKIN_LIB": ""}, "absolute path"), ({"THALLUSKIN_LIB": folder}, "is not there; THALLUSKIN_LIB"),
         (of("armv7-unknown-linux-gnueabi", "arm"), "makes no libthalluskin.a for armv7"),
+        (of("riscv64gc-unknown-none-elf", "riscv64"), "makes no libthalluskin.a for riscv64gc"),
         (of("aarch64-apple-darwin", "aarch64"), "makes no libthalluskin.a for aarch64-apple"),
+        (of("aarch64-unknown-none-softfloat", "aarch64"), "makes no libthalluskin.a for aarch64-unknown-none-soft"),
     ]
     for target, arch, place in (
             ("thumbv7em-none-eabihf", "arm", "cortex-m4"), ("thumbv6m-none-eabi", "arm", "cortex-m0plus"),
-            ("riscv32imac-unknown-none-elf", "riscv32", "riscv32"),
-            ("riscv64gc-unknown-none-elf", "riscv64", "riscv64"),
+            ("riscv32imac-unknown-none-elf", "riscv32", "riscv32"), ("riscv32imc-esp-espidf", "riscv32", "riscv32"),
+            ("riscv64imac-unknown-none-elf", "riscv64", "riscv64"),
             ("aarch64-unknown-linux-gnu", "aarch64", "aarch64"), ("wasm32-unknown-unknown", "wasm32", "wasm")):
-        if not os.path.exists(os.path.join(ROOT, "target", place)):
-            tries.append((of(target, arch), os.path.join(place, "libthalluskin.a") + " is not there"))
+        lacks = "%s/libthalluskin.a is not there; `./thalluskin build %s` makes it" % (place, place)
+        other = os.path.join(folder, "with", target, "bindings", "rust")
+        put_archive(os.path.join(folder, "with", target, "target", place))
+        os.makedirs(other)
+        tries += [(of(target, arch), lacks), ({**of(target, arch), "CARGO_MANIFEST_DIR": other}, None)]
     for wrong, words in ((of("x86_64-pc-windows-gnu", "x86_64", OS="windows"), "64-bit Linux"),
                          (of("x86_64-unknown-linux-gnux32", "x86_64", POINTER_WIDTH="32"), "64-bit Linux"),
                          (of("powerpc64-unknown-linux-gnu", "powerpc64", ENDIAN="big"), "little-endian")):
@@ -93,8 +107,7 @@ def elsewhere(cargo, folder):
     installed = os.path.join(must("rustc", "rustc", "--print", "sysroot").decode().strip(), "lib", "rustlib")
     lacking = [target for target in ELSEWHERE if not os.path.exists(os.path.join(installed, target))]
     named = os.path.join(folder, "empty")
-    os.makedirs(named)
-    open(os.path.join(named, "libthalluskin.a"), "wb").close()
+    put_archive(named)
     for target in ELSEWHERE:
         if target not in lacking:
             cargo("check", "--target", target, THALLUSKIN_LIB=named)
