@@ -5,12 +5,13 @@ use std::path::PathBuf;
 use std::process::{exit, Command};
 
 /// What a target's name begins with, and the folder in target/ for it.
-const FOLDERS: [(&str, &str); 7] = [
+const FOLDERS: [(&str, &str); 8] = [
     ("x86_64-", "staticlib"),
     ("thumbv7em-", "cortex-m4"),
     ("thumbv6m-", "cortex-m0plus"),
-    ("riscv32", "riscv32"),
-    ("riscv64", "riscv64"),
+    ("riscv32imac-", "riscv32"), // others pass floats in another way, or lack instructions
+    ("riscv32imc-", "riscv32"),
+    ("riscv64imac-", "riscv64"),
     ("aarch64-unknown-", "aarch64"), // Apple's and Windows' archives are of another kind
     ("wasm32", "wasm"),
 ];
@@ -52,8 +53,11 @@ fn main() {
     if is("ARCH", "x86_64") && !(is("OS", "linux") && is("POINTER_WIDTH", "64")) {
         refuse(&format!("the repository's libthalluskin.a for x86-64 is for 64-bit Linux, and {} is another", target));
     }
-    let known = FOLDERS.iter().find(|(begin, _)| target.starts_with(begin));
-    let folder = match (env::var_os("THALLUSKIN_LIB").map(PathBuf::from), known) {
+    // the archives for Arm of 64 bits use the registers of floats
+    let known = FOLDERS.iter().find(|(begin, _)| target.starts_with(begin) && !target.ends_with("-softfloat"));
+    let given = env::var_os("THALLUSKIN_LIB").map(PathBuf::from);
+    let is_given = given.is_some();
+    let folder = match (given, known) {
         (Some(folder), _) if folder.is_absolute() => folder,
         // this script and the linker run in other folders than the person who set it
         (Some(folder), _) => {
@@ -71,10 +75,10 @@ fn main() {
     let archive = folder.join("libthalluskin.a");
     println!("cargo:rerun-if-changed={}", archive.display());
     if !archive.is_file() {
-        let how = if is("ARCH", "x86_64") {
-            "`rt staticlib thalluskin` makes it"
-        } else {
-            "THALLUSKIN_LIB may name the folder of one"
+        let how = match known {
+            Some((_, "staticlib")) if !is_given => String::from("`rt staticlib thalluskin` makes it"),
+            Some((_, folder)) if !is_given => format!("`./thalluskin build {}` makes it", folder),
+            _ => String::from("THALLUSKIN_LIB has to name the folder of one"),
         };
         refuse(&format!("{} is not there; {}", archive.display(), how));
     }
