@@ -28,11 +28,11 @@
  *         thk_draw_char 900; thk_draw_bitmap 900; thk_draw_glyph 800; thk_unpack_glyph 400
  *         thk_prep_char 700; thk_metrics 300; thk_property 200; each of the others 100
  *
- *     and its caller some 500 for the answer and for copies of the record and of a page's numbers. docs/TARGETS.md has
- *     the figures of other processors.
+ *     and its caller some 500 for the answer and for copies of the record and of a page's numbers. The page
+ *     that `./thalluskin build` leaves beside an archive for another processor has its figures.
  *
- * The archive has no tables to unwind its frames by: it throws nothing and calls nothing of its caller's, so that no
- * exception passes through it. A debugger that stops inside it may not see who called.
+ * The archive has no tables to unwind its frames by, or on Arm such as say so: it throws nothing and calls nothing of
+ * its caller's, so that no exception passes through it. A debugger that stops inside it may not see who called.
  *
  * Every answer but the version begins with `refusal`, 0 or the number of the reason why there is no result, and
  * `place`, which says where: for THK_BAD_OFFSET, THK_BAD_TABLE and THK_CODE_BOUNDS in loading the directory entry from

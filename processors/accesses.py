@@ -6,42 +6,46 @@ buffer. The module is refused unless
 
   - own memory is reached by constant offsets, within what was allocated or what the header says a struct has, at the
     alignment that the access asks for;
-  - lent memory is reached by the pointer of a slice and a number of bytes, and is a byte or a pixel;
+  - lent memory is reached by the pointer of a slice and a number of bytes, always in one way, the one that the header
+    says of it: bytes that are read, bytes that are written, or pixels that are written;
   - a place of own memory that holds a pointer has 8 bytes to itself, under every name that it has, and is only ever
     read, written and copied as a whole pointer; what is allocated for one pointer is used for nothing else, and no
     struct of a caller's holds one;
   - no address of own memory is stored, answered or made of a number, but for an array of bytes or of pixels, which is
-    lent memory from then on and is neither handed on nor copied;
+    lent memory from then on, neither handed on nor copied, and put into slices of the same function alone;
   - what is copied as a whole is own memory, of a constant size;
   - nothing is written through a pointer to a struct that a caller lends, but the answer;
   - no function calls itself, directly or through others.
 
-Where these hold no number depends on a pointer's size: pointers are stored and copied, never counted. That a font's
-bytes and a text are only read, and that lent memory is reached within its length, is proved of the source."""
+Where these hold no number depends on a pointer's size: pointers are stored and copied, never counted. That lent memory
+is reached within its length is proved of the source."""
 import collections
 
 from processors.kit import Failed
 from processors.module import arguments
 
 WIDTH = {"i1": 1, "i8": 1, "i16": 2, "i32": 4, "i64": 8, "ptr": 8}
-LENT = "lent"
-OF_LENT = {("load", "i8", 1), ("store", "i8", 1), ("store", "i32", 4)}
+# how lent memory is reached: what is done, to which type, at which alignment
+READ_BYTES, WRITE_BYTES, WRITE_PIXELS = ("load", "i8", 1), ("store", "i8", 1), ("store", "i32", 4)
 
 # an address of own memory: what was allocated or handed in, by its function and name, and the offset from there
 Place = collections.namedtuple("Place", "region offset")
+# an address of lent memory, by the place that its pointer was read from, or by the parameter that it is
+Lent = collections.namedtuple("Lent", "source")
 Touch = collections.namedtuple("Touch", "offset type align")
 
 
 class Accesses:
     """of the functions of a module; `structs` has size and alignment of each struct that a caller lends, by function
-    and parameter, and `answers` those of them that are written"""
+    and parameter, `answers` those of them that are written, and `slices` how memory is reached that a caller lends"""
 
-    def __init__(self, functions, structs, answers):
-        self.functions, self.structs, self.answers = functions, structs, answers
+    def __init__(self, functions, structs, answers, slices):
+        self.functions, self.structs, self.answers, self.slices = functions, structs, answers, slices
         self.touches = collections.defaultdict(list)
         self.copies, self.handed = [], []  # two places and a size; a parameter and the place that it is
-        self.allocated, self.slots, self.lent_from = {}, set(), []
-        self.written, self.of_lent = set(), collections.Counter()
+        self.allocated, self.slots = {}, set()
+        self.stored, self.arrays = [], []  # what is lent or an array, and where its address is stored
+        self.written, self.reached = set(), collections.Counter()  # the ways in which lent memory is reached
         self.calls = collections.defaultdict(set)
         for function in functions.values():
             self.walk(function)
@@ -62,8 +66,7 @@ class Accesses:
         for kind, name in function.parameters:
             if kind == "ptr":
                 region = (function.name, name)
-                is_own = function.internal or region in self.structs
-                known[name] = Place(region, 0) if is_own else LENT
+                known[name] = Lent(region) if region in self.slices else Place(region, 0)
         for form, parts, line in function.instructions:
             try:
                 getattr(self, form)(known, parts)
@@ -81,37 +84,40 @@ class Accesses:
 
     def step(self, known, parts):
         at = known[parts["at"]]
-        if at != LENT:
+        if isinstance(at, Place):
             if not parts["by"].isdigit():
                 raise Failed("own memory is reached by a number that is not constant")
             at = Place(at.region, at.offset + int(parts["by"]))
         known[parts["to"]] = at
 
     def touch(self, what, at, parts):
-        touch = (what, parts["type"], int(parts["align"]))
-        if at == LENT:
-            if touch not in OF_LENT:
-                raise Failed("lent memory is taken for something else than bytes or pixels")
-            self.of_lent[touch] += 1
+        if isinstance(at, Lent):
+            self.reached[at.source, (what, parts["type"], int(parts["align"]))] += 1
         else:
-            self.touches[at.region].append(Touch(at.offset, *touch[1:]))
+            self.touches[at.region].append(Touch(at.offset, parts["type"], int(parts["align"])))
 
     def load(self, known, parts):
-        self.touch("load", known[parts["at"]], parts)
+        at = known[parts["at"]]
+        self.touch("load", at, parts)
         if parts["type"] == "ptr":
-            known[parts["to"]] = LENT
+            if isinstance(at, Lent):
+                raise Failed("lent memory is taken for a pointer")
+            known[parts["to"]] = Lent(at)
 
     def store(self, known, parts):
         at = known[parts["at"]]
         self.touch("store", at, parts)
-        if parts["type"] == "ptr" and known[parts["value"]] != LENT:
-            self.lent_from.append(known[parts["value"]])
-        if at != LENT:
+        if parts["type"] == "ptr":
+            if isinstance(at, Lent):
+                raise Failed("a pointer is stored in lent memory")
+            value = known[parts["value"]]
+            (self.stored if isinstance(value, Lent) else self.arrays).append((value, at))
+        if isinstance(at, Place):
             self.written.add(at.region)
 
     def copy(self, known, parts):
         at, source = known[parts["at"]], known[parts["source"]]
-        if LENT in (at, source):
+        if isinstance(at, Lent) or isinstance(source, Lent):
             raise Failed("lent memory is copied as a whole")
         self.copies.append((at, source, int(parts["size"])))
         self.written.add(at.region)
@@ -124,7 +130,7 @@ class Accesses:
         self.calls[self.inside].add(called.name)
         for (kind, name), (_, value) in zip(called.parameters, given):
             if kind == "ptr":
-                if known[value] == LENT:
+                if isinstance(known[value], Lent):
                     raise Failed("an address of lent memory is handed on by itself")
                 self.handed.append(((called.name, name), known[value]))
 
@@ -148,12 +154,16 @@ class Accesses:
                 del rest[name]
 
     def lent_arrays(self):
-        """what is lent though it is own memory is an array of bytes or of pixels, allocated where it is lent"""
-        for region, offset in self.lent_from:
+        """what is lent though it is own memory is an array of bytes or of pixels, allocated where it is lent; its
+        address is kept in memory of one pointer, and from there goes into memory of the same function"""
+        for (region, offset), at in self.arrays:
             kinds = {touch.type for touch in self.touches[region]}
-            size, align = self.allocated.get(region, (0, 0))
+            _, align = self.allocated.get(region, (0, 0))
             if offset or region in self.elsewhere or kinds not in ({"i8"}, {"i32"}) or align < WIDTH[min(kinds)]:
                 raise Failed("in %s the address of %s is stored, which is no array of bytes or pixels" % region)
+            further = {place.region for value, place in self.stored if value.source == at}
+            if at.region not in self.slots or not further <= set(self.allocated):
+                raise Failed("in %s the address of the array %s leaves its function" % region)
 
     def extents(self):
         """no access ends past what was allocated or lent"""
@@ -184,41 +194,65 @@ class Accesses:
                     raise Failed("in %s %s is not aligned to %d at byte %d" % (*region, touch.align, touch.offset))
 
     def pointers(self):
-        """each byte of a pointer is that byte of a pointer under every name that it has. Bytes that a copy or a call
-        makes the same are one"""
+        """each byte of a pointer is that byte of a pointer under every name that it has, and no copy has a part of one.
+        Bytes that a copy or a call makes the same are one; so is the pointer that is read from a place and stored in
+        another"""
         same, kinds = Same(), collections.defaultdict(set)
         for one, other, size in self.copies:
             for k in range(size):
-                same.join((one.region, one.offset + k), (other.region, other.offset + k))
+                same.join(Place(one.region, one.offset + k), Place(other.region, other.offset + k))
         for parameter, place in self.handed:
             for k in range(self.ends[parameter]):
-                same.join((parameter, k), (place.region, place.offset + k))
+                same.join(Place(parameter, k), Place(place.region, place.offset + k))
         for region, touches in self.touches.items():
             for touch in set(touches):
                 for k in range(WIDTH[touch.type]):
-                    kinds[same.of((region, touch.offset + k))].add((touch.type, k))
+                    kinds[same.of(Place(region, touch.offset + k))].add((touch.type, k))
         for of_it in kinds.values():
             if len(of_it) > 1 and any(kind == "ptr" for kind, _ in of_it):
                 raise Failed("a pointer shares its place: %s" % sorted(of_it))
-        self.held = {(region, touch.offset) for region, touches in self.touches.items() for touch in touches
-                     if touch.type == "ptr"}
-        for region, offset in self.held:
-            self.whole(same, region, offset)
+        self.whole(same, kinds)
         for region in self.slots:
             if region in self.elsewhere or {touch[:2] for touch in self.touches[region]} - {(0, "ptr")}:
                 raise Failed("in %s what is allocated for the pointer %s is used for something else" % region)
-        for region in self.structs:
-            if any(("ptr", 0) in kinds.get(same.of((region, k)), ()) for k in range(self.ends[region])):
-                raise Failed("the struct %s of %s holds a pointer" % (region[1], region[0]))
+        self.ways(same)
 
-    def whole(self, same, region, offset):
-        """a pointer that is copied is copied as a whole: its bytes stand side by side wherever they are"""
-        first = same.members((region, offset))
-        for k in range(1, WIDTH["ptr"]):
-            if {(of, at + k) for of, at in first} != set(same.members((region, offset + k))):
-                raise Failed("in %s a part of the pointer at byte %d of %s is copied" % (region[0], offset, region[1]))
-        if any(at % WIDTH["ptr"] for _, at in first):
-            raise Failed("in %s the pointer at byte %d of %s is not aligned" % (region[0], offset, region[1]))
+    def whole(self, same, kinds):
+        """pointers are aligned, copied as wholes, and not in structs of a caller's"""
+        for *places, size in self.copies:
+            for region, offset in places if size else ():
+                first, last = (kinds.get(same.of(Place(region, at)), ()) for at in (offset, offset + size - 1))
+                if {("ptr", k) for k in range(1, 8)} & set(first) or {("ptr", k) for k in range(7)} & set(last):
+                    raise Failed("in %s a part of a pointer is copied to or from %s" % region)
+        self.held = {Place(region, touch.offset) for region, touches in self.touches.items() for touch in touches
+                     if touch.type == "ptr"}
+        for place in self.held:
+            for region, offset in same.members(place):
+                if offset % WIDTH["ptr"]:
+                    raise Failed("in %s the pointer at byte %d of %s is not aligned" % (region[0], offset, region[1]))
+                if region in self.structs:
+                    raise Failed("the struct %s of %s holds a pointer" % (region[1], region[0]))
+
+    def ways(self, same):
+        """what one pointer may point to is reached in one way, and what a caller lends as the header says"""
+        for value, at in self.stored:
+            same.join(value.source, at)
+        for (region, _), at in self.arrays:
+            same.join(region, at)
+        found = collections.defaultdict(set)
+        for source, way in self.reached:
+            found[same.of(source)].add(way)
+        for parameter, way in self.slices.items():
+            if found[same.of(parameter)] - {way}:
+                raise Failed("%s of %s is lent for %s, and reached by %s" % (
+                    parameter[1], parameter[0], way, sorted(found[same.of(parameter)])))
+        for (region, _), _ in self.arrays:
+            kinds = {touch.type for touch in self.touches[region]}
+            if {kind for _, kind, _ in found[same.of(region)]} - kinds:
+                raise Failed("the array %s of %s is reached by another type" % (region[1], region[0]))
+        for some in found.values():
+            if len(some) > 1 or not some <= {READ_BYTES, WRITE_BYTES, WRITE_PIXELS}:
+                raise Failed("lent memory is reached in other ways than as bytes or pixels: %s" % sorted(some))
 
     def writes(self):
         """no struct that a caller lends is written, but the answer"""
@@ -232,7 +266,7 @@ class Accesses:
 
     def summary(self):
         return "%d functions, %d places that hold a pointer, %d accesses of lent memory" % (
-            len(self.functions), len(self.held), sum(self.of_lent.values()))
+            len(self.functions), len(self.held), sum(self.reached.values()))
 
 
 class Same:

@@ -3,7 +3,6 @@
 WebAssembly thalluskin.wasm too, the header, and figures.md, which it prints."""
 import os
 import shutil
-import signal
 import sys
 import tempfile
 
@@ -14,6 +13,7 @@ from processors import figures, kit  # noqa: E402
 from processors.kit import Failed, run, tool  # noqa: E402
 from processors.retarget import LEVELS, retargeted, text_of  # noqa: E402
 from processors.table import OWN, TARGETS, at_hand  # noqa: E402
+from processors.x86_stack import DISASSEMBLER  # noqa: E402
 
 USUAL = "-O2"
 COMPILED = ["-ffunction-sections", "-fdata-sections", "-fstack-size-section", "-Wno-override-module", "-x", "ir"]
@@ -51,12 +51,15 @@ def build(name, level=USUAL):
             title, words = "libthalluskin for %s, %s" % (name, level), "Looked at: %s." % accesses.summary()
         of_it = figures.figures(name, archive, made, assembler)
         folder = folder_of(name)
+        page = os.path.join(folder, "figures.md")
         os.makedirs(folder, exist_ok=True)
+        if os.path.exists(page):
+            os.remove(page)  # so that it is never that of another archive
         if name == "wasm":
             figures.linked_wasm_library(archive, os.path.join(folder, "thalluskin.wasm"))
         shutil.copyfile(archive, os.path.join(folder, "libthalluskin.a"))
     shutil.copyfile(kit.HEADER, os.path.join(folder, "thalluskin.h"))
-    with open(os.path.join(folder, "figures.md"), "w") as f:
+    with open(page, "w") as f:
         f.write(figures.page(name, title, of_it, words))
     return of_it
 
@@ -98,6 +101,8 @@ def main(words):
     name, *level = asked(words)
     for needed in ("clang", "ld.lld", "llvm-ar"):
         tool(needed)
+    if name == OWN and not shutil.which(DISASSEMBLER):
+        raise Failed("%s is not there, by which the stack of the kit's archive is read" % DISASSEMBLER)
     build(name, *level)
     with open(os.path.join(folder_of(name), "figures.md")) as f:
         sys.stdout.write(f.read())
@@ -105,12 +110,4 @@ def main(words):
 
 
 if __name__ == "__main__":
-    signal.signal(signal.SIGINT, signal.SIG_DFL)
-    try:
-        main(sys.argv[1:])
-    except Failed as failed:
-        kit.tell(failed)
-        sys.exit(2)
-    except OSError as failed:
-        kit.say("%s: %s" % (failed.filename or "standard output", failed.strerror))
-        sys.exit(2)
+    kit.command(main, sys.argv[1:])

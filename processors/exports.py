@@ -2,9 +2,11 @@
 the way of x86-64, and as other processors have them, with structs lent. Both hand on to a function of the library that
 takes its answer's place, slices and structs by pointers, and numbers as they are."""
 from processors import header
+from processors.accesses import READ_BYTES, WRITE_BYTES, WRITE_PIXELS
 from processors.header import BY_VALUE, LENT
 
 IN_LLVM = {"uint32_t": "i32", "uint64_t": "i64"}
+WAYS = {"const uint8_t *": READ_BYTES, "uint8_t *": WRITE_BYTES, "uint32_t *": WRITE_PIXELS}
 SLICE, WORD, BY_POINTER = 16, 8, 16  # bytes: of a slice, of a register, and of the largest struct that goes in two
 
 
@@ -41,8 +43,9 @@ class Export:
 
 
 def exported(answer, name, given, called, lends):
-    """a function's text, and size and alignment of each struct that it is lent, by the parameter"""
-    made, stated = Export(), {}
+    """a function's text; by the parameter, size and alignment of each struct that it is lent, and how each slice is
+    reached"""
+    made, stated, slices = Export(), {}, {}
     place = made.parameter("ptr noundef align %d" % header.alignment(answer) if lends else "ptr noundef")
     stated[place] = header.sizes()[answer], header.alignment(answer)
     made.values.append("ptr " + place)
@@ -60,10 +63,11 @@ def exported(answer, name, given, called, lends):
                 value = made.kept(size, align, [(one, made.parameter(one)) for one in kinds])
             made.values.append("ptr " + value)
         elif header.is_pointer(kind):
-            slice_ = [("ptr", made.parameter("ptr noundef")), ("i64", made.parameter("i64 noundef"))]
-            made.values.append("ptr " + made.kept(SLICE, WORD, slice_))
+            pointer, length = made.parameter("ptr noundef"), made.parameter("i64 noundef")
+            slices[pointer] = WAYS[kind]
+            made.values.append("ptr " + made.kept(SLICE, WORD, [("ptr", pointer), ("i64", length)]))
         elif word not in lengths:
             made.values.append("%s %s" % (IN_LLVM[kind], made.parameter(IN_LLVM[kind] + " noundef")))
     if lends:
-        return made.text("define void @%s%s" % (LENT, name), called, "ret void"), stated
-    return made.text("define noundef ptr @%s%s" % (BY_VALUE, name), called, "ret ptr " + place), stated
+        return made.text("define void @%s%s" % (LENT, name), called, "ret void"), stated, slices
+    return made.text("define noundef ptr @%s%s" % (BY_VALUE, name), called, "ret ptr " + place), stated, slices

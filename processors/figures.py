@@ -59,6 +59,7 @@ def grouped(n):
 
 def page(name, title, of_it, words):
     """the figures in Markdown"""
+    kind = "bytes as a file" if name == "wasm" else "bytes of code and constants"
     more = "and for a page's numbers, some 300 bytes."
     if name == OWN:
         more = "and for copies of the record and of a page's numbers, some 500 bytes."
@@ -66,8 +67,8 @@ def page(name, title, of_it, words):
             for call in of_it.alone]
     return "\n".join([
         "# %s" % title, "",
-        "All calls together: %s bytes of code and constants. What the linker has to add: %s." % (
-            grouped(of_it.whole), ", ".join("`%s`" % one for one in of_it.undefined) or "nothing"),
+        "All calls together: %s %s. What the linker has to add: %s." % (
+            grouped(of_it.whole), kind, ", ".join("`%s`" % one for one in of_it.undefined) or "nothing"),
         words, "",
         "| call | linked alone, bytes | deepest stack, bytes |", "|---|---:|---:|", *rows, "",
         "Without what the linker adds. The stack is without the caller's own: the header's functions become part of",

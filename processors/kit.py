@@ -59,12 +59,26 @@ def tool(name):
     return found
 
 
+def command(main, words):
+    """runs a command: with anything wrong it ends with status 2, and in words"""
+    try:
+        main(words)
+    except KeyboardInterrupt:
+        sys.exit(130)
+    except Failed as failed:
+        tell(failed)
+        sys.exit(2)
+    except OSError as failed:
+        say("%s: %s" % (failed.filename or "standard output", failed.strerror))
+        sys.exit(2)
+
+
 # ---- what the kit makes
 
 
 def files(folder):
-    """all files below a folder"""
-    return [os.path.join(inside, file) for inside, _, names in os.walk(folder) for file in names]
+    """all files below a folder, and the folders, which are newer where a file was removed"""
+    return [os.path.join(inside, name) for inside, _, names in os.walk(folder) for name in [*names, ""]]
 
 
 def is_newer(file, *sources):

@@ -7,7 +7,7 @@ from processors.kit import Failed
 NUMBER = r"i1|i8|i16|i32|i64"
 TYPE = NUMBER + "|ptr"
 VALUE = r"%\w+|-?\d+|true|false"
-INTERNAL = r'@"[\w:]+"'
+INTERNAL = r'@"\w+(?:::\w+)+"'  # no name of a function that a compiler calls by itself
 MEMMOVE = "@llvm.memmove.p0.p0.i64"
 
 # the forms of instructions, by what they do to memory; those of `plain` touch none and hold no pointer
@@ -17,7 +17,7 @@ FORMS = {
     "load": r"(?P<to>%\w+) = load (?P<type>{t}), ptr (?P<at>%\w+), align (?P<align>\d+)(?:, !(?:range|noundef) !\d+)*",
     "store": r"store (?P<type>{t}) (?P<value>{v}), ptr (?P<at>%\w+), align (?P<align>\d+)",
     "copy": r"call void {m}\(ptr (?P<at>%\w+), ptr (?P<source>%\w+), i64 (?P<size>\d+), i1 false\)",
-    "call": r"(?:(?P<to>%\w+) = )?call (?P<type>void|{n}) (?P<name>{i})\((?P<given>(?:(?:{t}) (?:{v})(?:, )?)*)\)",
+    "call": r"(?:(?P<to>%\w+) = )?call (?P<type>void|{n}) (?P<name>{i})\((?P<given>(?:{a}(?:, {a})*)?)\)",
     "plain": "|".join([
         r"%\w+ = (?:add|sub|mul|udiv|urem|and|or|xor|shl|lshr)(?: nuw| nsw| exact| disjoint)* (?:{n}) (?:{v}), (?:{v})",
         r"%\w+ = icmp \w+ (?:{n}) (?:{v}), (?:{v})",
@@ -29,7 +29,8 @@ FORMS = {
         r"ret void", r"ret (?:{n}) (?:{v})",
     ]),
 }
-FORMS = {name: re.compile(form.format(n=NUMBER, t=TYPE, v=VALUE, i=INTERNAL, m=re.escape(MEMMOVE)))
+ARGUMENT = "(?:%s) (?:%s)" % (TYPE, VALUE)
+FORMS = {name: re.compile(form.format(n=NUMBER, t=TYPE, v=VALUE, i=INTERNAL, a=ARGUMENT, m=re.escape(MEMMOVE)))
          for name, form in FORMS.items()}
 LABEL = re.compile(r"[\w.]+:(?: +; (?:preds = [%\w., ]+|No predecessors!))?")
 HEAD = re.compile(r"define (?P<internal>internal )?(?:noundef )?(?:zeroext )?(?P<answer>void|%s) "
@@ -37,7 +38,8 @@ HEAD = re.compile(r"define (?P<internal>internal )?(?:noundef )?(?:zeroext )?(?P
 PARAMETER = re.compile(r"(?P<type>%s) noundef(?: zeroext)?(?P<align> align \d+)? (?P<name>%%\w+)" % TYPE)
 OUTSIDE = re.compile("|".join([
     r"", r"; ModuleID = '[^']*'", r"; Function Attrs: [\w():, ]+", r'source_filename = "rattle"',
-    r'target (?:datalayout|triple) = "[^"]*"',
+    r'target datalayout = "e-m:e-p270:32:32-p271:32:32-p272:64:64-i64:64-i128:128-f80:128-n8:16:32:64-S128"',
+    r'target triple = "x86_64-unknown-linux-gnu"',
     # what is declared is LLVM's own
     r"declare void %s\(ptr writeonly captures\(none\), ptr readonly captures\(none\), i64, i1 immarg\) #\d"
     % re.escape(MEMMOVE),
@@ -77,7 +79,7 @@ def functions(text):
     found, inside = {}, None
     for line in text.split("\n"):
         head = HEAD.fullmatch(line)
-        if head and not inside:
+        if head and not inside and head["name"] not in found:
             inside = Function(head)
             found[inside.name] = inside
         elif line == "}" and inside:
@@ -87,6 +89,8 @@ def functions(text):
                 inside.take(line.strip())
         elif not OUTSIDE.fullmatch(line):
             raise Failed("in the module this is not understood: %s" % line)
+    if inside:
+        raise Failed("the module ends within %s" % inside.name)
     return found
 
 

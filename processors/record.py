@@ -11,7 +11,6 @@ import ctypes
 import functools
 import os
 import re
-import signal
 import sys
 import tempfile
 import textwrap
@@ -145,25 +144,19 @@ def printed(font, title, name):
     return lines(font, answer.rec, title, name)
 
 
-def main():
-    # an interrupt ends the library's work too, which Python would wait for
-    signal.signal(signal.SIGINT, signal.SIG_DFL)
-    file, *words = sys.argv[1:]
+def main(words):
+    file, *given = words
     # UTF-8, whatever the locale is
-    path, *given = (os.fsencode(word).decode(errors="replace") for word in words)
+    path, *given = (os.fsencode(word).decode(errors="replace") for word in given)
     title = os.path.basename(path)
-    try:
-        name = given[0] if given else name_of(title)
-        if fault(name):
-            raise kit.Failed("'%s' %s" % (seen(name), fault(name)))
-        with open(file, "rb") as f:
-            font = f.read()
-        sys.stdout.buffer.writelines(line.encode() + b"\n" for line in printed(font, title, name))
-        sys.stdout.buffer.flush()
-    except (kit.Failed, OSError) as failed:
-        kit.tell(failed)
-        sys.exit(2)
+    name = given[0] if given else name_of(title)
+    if fault(name):
+        raise kit.Failed("'%s' %s" % (seen(name), fault(name)))
+    with open(file, "rb") as f:
+        font = f.read()
+    sys.stdout.buffer.writelines(line.encode() + b"\n" for line in printed(font, title, name))
+    sys.stdout.buffer.flush()
 
 
 if __name__ == "__main__":
-    main()
+    kit.command(main, sys.argv[1:])

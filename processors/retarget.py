@@ -46,19 +46,21 @@ def one(expression, by, text):
 
 
 def lending(text):
-    """the module with functions that are lent structs, and size and alignment of what they are lent"""
-    structs = {}
+    """the module with functions that are lent structs; size and alignment of the structs that they are lent, and how
+    slices are reached"""
+    structs, slices = {}, {}
     for answer, name, given in header.prototypes():
         called = re.findall(r'^define internal void (@"[\w:]+::%s%s")\(' % (header.BY_VALUE, name), text, re.M)
         if len(called) != 1:
             raise Failed("the kit's module has %d functions under %s%s" % (len(called), header.BY_VALUE, name))
-        kits, _ = exported(answer, name, given, called[0], lends=False)
+        kits = exported(answer, name, given, called[0], lends=False)[0]
         if text.count("\n" + kits) != 1:
             raise Failed("%s%s is not what the kit is known to make of a prototype" % (header.BY_VALUE, name))
-        ours, lent = exported(answer, name, given, called[0], lends=True)
+        ours, *lent = exported(answer, name, given, called[0], lends=True)
         text = text.replace(kits, ours)
-        structs.update({("@" + header.LENT + name, place): stated for place, stated in lent.items()})
-    return text, structs
+        for all_of_them, of_it in zip((structs, slices), lent):
+            all_of_them.update({("@" + header.LENT + name, place): stated for place, stated in of_it.items()})
+    return text, structs, slices
 
 
 def aligned(text, accesses):
@@ -76,12 +78,12 @@ def aligned(text, accesses):
 @functools.lru_cache(maxsize=1)
 def prepared(text):
     """what is the same for all processors, and all accesses to memory; refused where one is not understood"""
-    text, structs = lending(text)
+    text, structs, slices = lending(text)
     found = functions(text)
     others = {name for name, function in found.items() if not function.internal} - {"@" + header.VERSION}
     if others != {name for name, _ in structs}:
         raise Failed("the module exports what the header does not declare: %s" % ", ".join(sorted(others)))
-    accesses = Accesses(found, structs, {(name, place) for name, place in structs if place == "%a0"})
+    accesses = Accesses(found, structs, {(name, place) for name, place in structs if place == "%a0"}, slices)
     return aligned(text, accesses), accesses
 
 

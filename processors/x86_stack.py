@@ -1,11 +1,12 @@
 """How deep the stack grows in each function of an archive for x86-64, from their instructions: along every path what
 is pushed and what is taken off the stack's pointer, what is stored below that pointer, and under each call the callee's
 own. The kit's archive has no tables of stack sizes."""
+import platform
 import re
-import shutil
 
 from processors.kit import Failed, run
 
+DISASSEMBLER = "objdump" if platform.machine() == "x86_64" else "x86_64-linux-gnu-objdump"
 ELSEWHERE = {"memcpy", "memset"}  # of the C library, and not counted
 WORD = 8
 
@@ -13,8 +14,7 @@ WORD = 8
 def functions(archive):
     """the instructions of each function: address, name, operands, and the function that it calls or jumps to"""
     found, lines = {}, []
-    objdump = "x86_64-linux-gnu-objdump"
-    for line in run(objdump if shutil.which(objdump) else "objdump", "-dr", "--no-show-raw-insn", archive).split("\n"):
+    for line in run(DISASSEMBLER, "-dr", "--no-show-raw-insn", archive).split("\n"):
         start = re.fullmatch(r"[0-9a-f]+ <(.*)>:", line)
         one = re.fullmatch(r" *([0-9a-f]+):\t(\w+) *(.*)", line)
         named = re.search(r"\bR_X86_64_PLT32\t(?:\.text\.)?(.*)-0x4$", line)

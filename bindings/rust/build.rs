@@ -5,10 +5,12 @@ use std::path::PathBuf;
 use std::process::{exit, Command};
 
 /// What a target's name begins with, and the folder in target/ for it.
-const FOLDERS: [(&str, &str); 8] = [
+const FOLDERS: [(&str, &str); 10] = [
     ("x86_64-", "staticlib"),
     ("thumbv7em-", "cortex-m4"),
-    ("thumbv6m-", "cortex-m0plus"),
+    ("thumbv6m-", "cortex-m0plus"), // whose code runs on every later Cortex-M
+    ("thumbv7m-", "cortex-m0plus"),
+    ("thumbv8m.", "cortex-m0plus"),
     ("riscv32imac-", "riscv32"), // others pass floats in another way, or lack instructions
     ("riscv32imc-", "riscv32"),
     ("riscv64imac-", "riscv64"),

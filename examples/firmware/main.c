@@ -1,5 +1,5 @@
-/* A meter's page on a Cortex-M4: draws the snapshot with the font that lies in flash, sends the page out as a picture,
- * and says whether it is complete. The caretaker copies nothing else. */
+/* A meter's page on a Cortex-M4: draws the snapshot, whose characters the font in flash has, sends the page out as a
+ * picture, and says whether it is complete: no row was cut. The caretaker copies nothing else. */
 #include "board.h"
 #include "meter.h"
 

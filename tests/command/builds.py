@@ -10,6 +10,7 @@ from common import ROOT, fail, read
 from exports import layouts
 from exports.machine import ARCHIVE, has, is_native
 from processors.table import OWN, TARGETS
+from processors.x86_stack import DISASSEMBLER
 
 CALLS = 1 + len(layouts.functions())  # with the version
 
@@ -42,9 +43,8 @@ def left(folder, name, *level):
 
 
 def built(folder):
-    objdump = ("objdump", "binutils") if is_native() else ("x86_64-linux-gnu-objdump", "binutils-x86-64-linux-gnu")
-    if not has(*objdump):
-        print("command: build %s was not tried, because there is no %s" % (OWN, objdump[0]))
+    if not has(DISASSEMBLER, "binutils" if is_native() else "binutils-x86-64-linux-gnu"):
+        print("command: build %s was not tried, because there is no %s" % (OWN, DISASSEMBLER))
     elif left(folder, OWN) != {"libthalluskin.a"} or content("target", OWN, "libthalluskin.a") != content(ARCHIVE):
         fail("build %s does not leave the kit's own archive" % OWN)
     if left(folder, "wasm", "-Oz") != {"libthalluskin.a", "thalluskin.wasm"}:
@@ -75,6 +75,6 @@ def unusable(folder):
     os.symlink(sys.executable, os.path.join(few, "python3"))
     not_taken("no kit", "the Rattle kit's command 'rt' is not on the PATH", "wasm", PATH=few)
     os.symlink(shutil.which("rt"), os.path.join(few, "rt"))
-    not_taken("no objdump", "objdump is not there", OWN, PATH=few)
+    not_taken("no objdump", DISASSEMBLER + " is not there", OWN, PATH=few)
     with open("/dev/full", "wb") as full:
         expect("no room", run("build", folder=folder, output=full), 2, None, "standard output: No space left")

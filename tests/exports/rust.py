@@ -81,6 +81,7 @@ def build_script(folder):
     ]
     for target, arch, place in (
             ("thumbv7em-none-eabihf", "arm", "cortex-m4"), ("thumbv6m-none-eabi", "arm", "cortex-m0plus"),
+            ("thumbv7m-none-eabi", "arm", "cortex-m0plus"), ("thumbv8m.main-none-eabihf", "arm", "cortex-m0plus"),
             ("riscv32imac-unknown-none-elf", "riscv32", "riscv32"), ("riscv32imc-esp-espidf", "riscv32", "riscv32"),
             ("riscv64imac-unknown-none-elf", "riscv64", "riscv64"),
             ("aarch64-unknown-linux-gnu", "aarch64", "aarch64"), ("wasm32-unknown-unknown", "wasm32", "wasm")):

@@ -1,5 +1,6 @@
 """The program examples/firmware under an emulator: its page against the panel program's, cut and complete, and its
-refusal of a record that was changed by hand; and the README's lines for firmware."""
+refusal of a record that was changed by hand; that it does not link where the stack would grow into the page; and the
+README's lines for firmware."""
 import os
 import re
 import subprocess
@@ -19,15 +20,24 @@ LAST = re.compile(rb"(complete|cut, rows dropped: \d+|refused: .*|fault)\n")
 SECONDS = 60
 
 
+SCRIPT = os.path.join(ROOT, "thalluskin")
+COMPILER = ["arm-none-eabi-gcc", "-mcpu=cortex-m4", "-mthumb", "-std=c99", "-Wall", "-Wextra", "-Werror"]
+HARD_FLOATS = ["-mfloat-abi=hard", "-mfpu=fpv4-sp-d16"]
+
+
 def must(*words, **more):
     got = run(*words, **more)
     if got.returncode != 0:
-        fail("targets: %s: status %d, %s" % (" ".join(words), got.returncode, got.stderr.decode()[-2000:]))
+        fail("targets: %s: status %d, %s" % (words[:4], got.returncode, got.stderr.decode()[-2000:]))
     return got.stdout
 
 
+def make(height, *options, out=BUILT):
+    return ["make", "-C", FOLDER, "HEIGHT=%d" % height, "OUT=" + out, *options]
+
+
 def made(height, *options, out=BUILT):
-    must("make", "-C", FOLDER, "HEIGHT=%d" % height, "OUT=" + out, *options)
+    must(*make(height, *options, out=out))
     return os.path.join(out, "meter-%d.elf" % height)
 
 
@@ -58,8 +68,7 @@ def snapshot():
 def panel(height, folder):
     """what the panel program makes of the text: its picture, and what was dropped as the firmware says it"""
     picture = os.path.join(folder, "page.pbm")
-    show = [os.path.join(ROOT, "thalluskin"), "show", snapshot(), "--height", str(height), "--pbm", picture]
-    said = must(*show).decode()
+    said = must(SCRIPT, "show", snapshot(), "--height", str(height), "--pbm", picture).decode()
     dropped = re.search(r"^(no|\d+) rows? dropped", said, re.M)[1]
     last = "complete" if dropped == "no" else "cut, rows dropped: %s" % dropped
     with open(picture, "rb") as f:
@@ -83,8 +92,17 @@ def refusal(folder):
         fail("targets: the firmware with a font that is cut sends %r" % got)
 
 
+def no_room():
+    """a library that takes more stack than there is does not link"""
+    must(SCRIPT, "build", "cortex-m4", "-Oz")
+    got = run(*make(COMPLETE))
+    if got.returncode == 0 or b"too little RAM is left for the stack" not in got.stderr:
+        fail("targets: the firmware links without room for its stack: %s" % got.stderr.decode()[-2000:])
+
+
 def readme(folder):
-    """the README's lines for firmware: its commands succeed, and its C compiles and links"""
+    """the README's lines for firmware: its commands succeed, and its C compiles and links, in a program that passes
+    floats in registers"""
     section = read("README.md").split("## Use in firmware\n")[1].split("\n## ")[0]
     blocks = indented_blocks(section)
     commands = [line for block in blocks for line in block.splitlines() if line.startswith("./thalluskin ")]
@@ -93,11 +111,12 @@ def readme(folder):
         fail("targets: the README's lines for firmware are others")
     for command in commands:
         must("sh", "-c", command.replace("> meter.h", "> %s/meter.h" % folder), cwd=ROOT)
-    source = os.path.join(folder, "lines.c")
+    source, library = os.path.join(folder, "lines.c"), os.path.join(ROOT, "target", "cortex-m4")
     with open(source, "w") as f:
-        f.write(sources[0])
-    must("arm-none-eabi-gcc", "-mcpu=cortex-m4", "-mthumb", "-std=c99", "-Wall", "-Wextra", "-Werror", "-c", "-I",
-         os.path.join(ROOT, "target", "cortex-m4"), source, "-o", source + ".o")
+        f.write(sources[0] + "\nint main(void)\n{\n    return show((const uint8_t *)\"8\", 1);\n}\n")
+    must(*COMPILER, *HARD_FLOATS, "-I", library, "-I", folder, source, "start.c",
+         os.path.join(library, "libthalluskin.a"), "-nostartfiles", "--specs=nano.specs", "-T", "mps2-an386.ld",
+         "-Wl,--gc-sections", "-Wl,-z,noexecstack", "-Wl,--defsym=LIBRARY_STACK=0", "-o", source + ".elf", cwd=FOLDER)
     return len(commands) + 1
 
 
@@ -111,4 +130,5 @@ def firmware():
         if not panel(COMPLETE, folder).endswith(b"complete\n") or b"cut" not in panel(CUT, folder):
             fail("targets: the two pages do not differ in what was cut")
         refusal(folder)
+        no_room()
         return 3, readme(folder)

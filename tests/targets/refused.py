@@ -51,6 +51,10 @@ EDITS = {
         inserted(READING, '%x = call i32 @"reads::wide"(i8 1) store i64 0, ptr %a0, align 8 call void @llvm.trap()'),
         inserted(READING, "call void @thalluskin_lent_load(ptr %a0, ptr %a0, i64 16)"),
         inserted(READING, "br label %x ; store i8 0, ptr %a0, align 1"),
+        inserted(READING, '%x = call i8 @"reads::byte_at"(ptr %a0i64 1, i64 1)'),
+        lambda text: text.replace('@"load::load_pcf"', '@"__aeabi_uldivmod"'),
+        lambda text: text.replace("e-m:e-p270", "E-m:e-p270"),
+        lambda text: text.replace('"reads::wide"', '"reads::byte_at"'),
         replaced(r'("reads::wide"\(i8 noundef %a0\)) #0', r"\1 #9"),
         replaced(r'("reads::byte_at"\(ptr noundef) %a0', r"\1 align 64 %a0"),
         added("@global = global i32 0"),
@@ -72,10 +76,28 @@ EDITS = {
     "by a number that is not constant": [
         inserted(READING, "%x = getelementptr i8, ptr %a0, i64 %a1"),
         inserted(READING, "%x = getelementptr i8, ptr %a0, i64 -8")],
-    "something else than bytes or pixels": [
+    "lent memory is taken for a pointer": [
+        inserted(READING, "%x = load ptr, ptr %a0, align 8", "%y = load ptr, ptr %x, align 8")],
+    "a pointer is stored in lent memory": [
+        inserted(READING, "%x = load ptr, ptr %a0, align 8", "store ptr %x, ptr %x, align 8")],
+    "is lent for ('load', 'i8', 1), and reached by": [
         inserted(READING, "%x = load ptr, ptr %a0, align 8", access) for access in (
-            "%y = load i64, ptr %x, align 1", "%y = load ptr, ptr %x, align 8", "%y = load i32, ptr %x, align 4",
-            "%y = load i8, ptr %x, align 4", "store i16 0, ptr %x, align 1", "store i32 0, ptr %x, align 1")],
+            "%y = load i64, ptr %x, align 1", "%y = load i32, ptr %x, align 4", "%y = load i8, ptr %x, align 4",
+            "store i8 0, ptr %x, align 1", "store i16 0, ptr %x, align 1", "store i32 0, ptr %x, align 4")],
+    "is lent for ('store', 'i32', 4), and reached by": [
+        inserted(DRAWING, "%x = load ptr, ptr %a4, align 8", access) for access in (
+            "store i32 0, ptr %x, align 1", "store i8 0, ptr %x, align 1", "%y = load i32, ptr %x, align 4")],
+    "in other ways than as bytes or pixels": [
+        inserted(READING, "%x = alloca ptr, align 8", "%y = alloca [16 x i8], align 8", "store i32 0, ptr %y, align 4",
+                 "store ptr %y, ptr %x, align 8", "%z = load ptr, ptr %x, align 8", "store i32 0, ptr %z, align 1")],
+    "is reached by another type": [
+        inserted(READING, "%x = alloca ptr, align 8", "%y = alloca [16 x i8], align 8", "store i32 0, ptr %y, align 4",
+                 "store ptr %y, ptr %x, align 8", "%z = load ptr, ptr %x, align 8", "store i8 0, ptr %z, align 1")],
+    "leaves its function": [
+        inserted(READING, "%y = alloca [16 x i8], align 8", "store i8 0, ptr %y, align 1",
+                 "store ptr %y, ptr %a0, align 8"),
+        inserted(READING, "%x = alloca ptr, align 8", "%y = alloca [16 x i8], align 8", "store i8 0, ptr %y, align 1",
+                 "store ptr %y, ptr %x, align 8", "%z = load ptr, ptr %x, align 8", "store ptr %z, ptr %a0, align 8")],
     "lent memory is copied": [
         inserted(READING, "%x = load ptr, ptr %a0, align 8", COPY % pair)
         for pair in (("%x", "%a0", 8), ("%a0", "%x", 8))],
@@ -85,10 +107,12 @@ EDITS = {
         inserted(READING, "%x = alloca [16 x i8], align 8", COPY % ("%x", "%a0", 16), "%y = load i64, ptr %x, align 8"),
         inserted(READING, "%x = alloca [8 x i8], align 8", "%y = getelementptr i8, ptr %a0, i64 4",
                  "%z = getelementptr i8, ptr %x, i64 4", COPY % ("%z", "%y", 4), "%n = load i64, ptr %x, align 8")],
-    "a part of the pointer": [
+    "a part of a pointer is copied": [
         inserted(READING, "%x = alloca [8 x i8], align 8", COPY % ("%x", "%a0", 4)),
         inserted(READING, "%x = alloca [16 x i8], align 8", "%y = getelementptr i8, ptr %a0, i64 1",
-                 COPY % ("%x", "%y", 8))],
+                 COPY % ("%x", "%y", 8)),
+        inserted(READING, "%x = alloca [8 x i8], align 8", "%y = getelementptr i8, ptr %a0, i64 4",
+                 "%z = getelementptr i8, ptr %x, i64 4", COPY % ("%x", "%a0", 4), COPY % ("%z", "%y", 4))],
     "the pointer at byte 4 of %x is not aligned": [
         inserted(READING, "%x = alloca [16 x i8], align 8", "%y = getelementptr i8, ptr %x, i64 4",
                  "%p = load ptr, ptr %a0, align 8", "store ptr %p, ptr %y, align 4")],

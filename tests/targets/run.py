@@ -57,20 +57,18 @@ def main():
     calls, without = len(all_asked().calls), lacking({name: target.needs for name, target in TARGETS.items()})
     names = [name for name in TARGETS if name not in without]
     measured = replays(names)
+    without.update(lacking({"examples/firmware": firmware.NEEDS, OWN: sizes.NEEDS}))
     for name, reason in without.items():
         print("targets: %s was not run: %s" % (name, reason))
-    print("targets: on %d of %d processors %d calls at %s and %d at %s, each made twice, agree with the model, and a "
-          "division made an addition is noticed" % (
-              len(names), len(TARGETS), calls, USUAL, -(-calls // STEP), " and ".join(OTHERS)))
-    without = lacking({"examples/firmware": firmware.NEEDS})
-    for name, reason in without.items():
-        print("targets: %s was not run: %s" % (name, reason))
-    if not without:
-        print("targets: examples/firmware: %d programs on an emulated board, and %d of the README's lines" %
-              firmware.firmware())
+    if names:
+        print("targets: on %d of %d processors %d calls at %s and %d at %s, each made twice, agree with the model, and "
+              "a division made an addition is noticed" % (
+                  len(names), len(TARGETS), calls, USUAL, -(-calls // STEP), " and ".join(OTHERS)))
+    if "examples/firmware" not in without:
+        print("targets: examples/firmware: %d programs on an emulated board, one that does not link, and %d of the "
+              "README's lines" % firmware.firmware())
     print("targets: %d modules and processors are refused, each for what it breaks" % refused())
-    without = lacking({OWN: sizes.NEEDS})
-    if not without:
+    if OWN not in without:
         measured[OWN, ""] = build(OWN)
     if sys.argv[1:] == ["--write"]:
         sizes.write(measured)

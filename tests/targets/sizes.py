@@ -3,13 +3,13 @@ import os
 import re
 
 from common import ROOT, fail, read
-from exports.machine import is_native
+from processors.retarget import LEVELS
+from processors.table import TARGETS
+from processors.x86_stack import DISASSEMBLER
 from targets.tools import Need
 
 PAGE = os.path.join("docs", "TARGETS.md")
-# by which the stack of the kit's own archive is read
-NEEDS = [Need("objdump", ["binutils"]) if is_native() else
-         Need("x86_64-linux-gnu-objdump", ["binutils-x86-64-linux-gnu"])]
+NEEDS = [Need(DISASSEMBLER, ["binutils" if DISASSEMBLER == "objdump" else "binutils-x86-64-linux-gnu"])]
 NEAR = 50  # a figure may be off by one part in so many, so that a small change of the code leaves the page as it is
 ROW = re.compile(r"^\| ([\w-]+) \| (-O[2sz]|) ?\| ([\d,]+) \| ([\d,]+) \| ([\d,]+) \| ([\d,]+) \| ([\d,]+) \|$", re.M)
 
@@ -37,10 +37,13 @@ def check(measured):
 
 
 def write(measured):
-    rows = ["| %s | %s | %s |" % (*key, " | ".join("{:,}".format(n) for n in columns(figures)))
-            for key, figures in measured.items()]
+    """stores what was measured; the rows of what was not stay"""
+    rows, names, levels = stated(), list(TARGETS), ["", *LEVELS]
+    rows.update({key: columns(figures) for key, figures in measured.items()})
+    lines = ["| %s | %s | %s |" % (*key, " | ".join("{:,}".format(n) for n in rows[key]))
+             for key in sorted(rows, key=lambda key: (names.index(key[0]), levels.index(key[1])))]
     text = read(PAGE)
     head = re.search(r"^\| target \| level \|.*\n\|---.*\n", text, re.M)
     after = re.sub(r"\A(?:\|.*\n)*", "", text[head.end():])
     with open(os.path.join(ROOT, PAGE), "w", encoding="utf-8") as f:
-        f.write(text[:head.end()] + "\n".join(rows) + "\n" + after)
+        f.write(text[:head.end()] + "\n".join(lines) + "\n" + after)

@@ -1,11 +1,11 @@
 """WebAssembly in node: replay.mjs, and what that has to know of the calls, from the declarations."""
 import json
 import os
-import re
 
-from common import TESTS, read
+from common import TESTS
 from exports import cases, layouts
 from exports.asked import BEYOND, PATTERN
+from processors import header
 from targets.tools import Need, said_by
 
 PROGRAM = os.path.join(TESTS, "targets", "replay.mjs")
@@ -41,8 +41,8 @@ def function(name):
 
 
 def plan(rooms):
-    version = re.search(r"^#define THK_VERSION (\d+)$", read("include", "thalluskin.h"), re.M)[1]
-    return {"functions": [function(name) for name in cases.KINDS], "numbers": len(NUMBERS), "version": int(version),
+    version = header.defined("THK_VERSION")
+    return {"functions": [function(name) for name in cases.KINDS], "numbers": len(NUMBERS), "version": version,
             "objects": [{"name": name, "room": rooms[name], "step": step} for name, _, step in OBJECTS],
             "record": layouts.size_of("Record"), "pattern": PATTERN, "beyond": BEYOND}
 
