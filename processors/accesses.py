@@ -9,16 +9,18 @@ buffer. The module is refused unless
   - lent memory is reached by the pointer of a slice and a number of bytes, always in one way, the one that the header
     says of it: bytes that are read, bytes that are written, or pixels that are written;
   - a place of own memory that holds a pointer has 8 bytes to itself, under every name that it has, and is only ever
-    read, written and copied as a whole pointer; what is allocated for one pointer is used for nothing else, and no
-    struct of a caller's holds one;
+    read, written and copied as a whole pointer; what is allocated for one pointer is used for nothing else; no struct
+    of a caller's holds one, and none is put into memory that a caller hands in;
   - no address of own memory is stored, answered or made of a number, but for an array of bytes or of pixels, which is
-    lent memory from then on, neither handed on nor copied, and put into slices of the same function alone;
+    lent memory from then on, neither handed on nor copied;
+  - what is reached by a pointer is what a caller lends, or such an array;
   - what is copied as a whole is own memory, of a constant size;
   - nothing is written through a pointer to a struct that a caller lends, but the answer;
   - no function calls itself, directly or through others.
 
 Where these hold no number depends on a pointer's size: pointers are stored and copied, never counted. That lent memory
-is reached within its length is proved of the source."""
+is reached within its length, and pixels at multiples of 4 bytes from its beginning, is not looked at here: it is proved
+of the source, and the kit translates it."""
 import collections
 
 from processors.kit import Failed
@@ -110,6 +112,8 @@ class Accesses:
         if parts["type"] == "ptr":
             if isinstance(at, Lent):
                 raise Failed("a pointer is stored in lent memory")
+            if at.region not in self.allocated:
+                raise Failed("a pointer is stored in memory of a caller's")
             value = known[parts["value"]]
             (self.stored if isinstance(value, Lent) else self.arrays).append((value, at))
         if isinstance(at, Place):
@@ -154,16 +158,12 @@ class Accesses:
                 del rest[name]
 
     def lent_arrays(self):
-        """what is lent though it is own memory is an array of bytes or of pixels, allocated where it is lent; its
-        address is kept in memory of one pointer, and from there goes into memory of the same function"""
-        for (region, offset), at in self.arrays:
+        """what is lent though it is own memory is an array of bytes or of pixels, allocated where it is lent"""
+        for (region, offset), _ in self.arrays:
             kinds = {touch.type for touch in self.touches[region]}
             _, align = self.allocated.get(region, (0, 0))
             if offset or region in self.elsewhere or kinds not in ({"i8"}, {"i32"}) or align < WIDTH[min(kinds)]:
                 raise Failed("in %s the address of %s is stored, which is no array of bytes or pixels" % region)
-            further = {place.region for value, place in self.stored if value.source == at}
-            if at.region not in self.slots or not further <= set(self.allocated):
-                raise Failed("in %s the address of the array %s leaves its function" % region)
 
     def extents(self):
         """no access ends past what was allocated or lent"""
@@ -224,6 +224,10 @@ class Accesses:
                 first, last = (kinds.get(same.of(Place(region, at)), ()) for at in (offset, offset + size - 1))
                 if {("ptr", k) for k in range(1, 8)} & set(first) or {("ptr", k) for k in range(7)} & set(last):
                     raise Failed("in %s a part of a pointer is copied to or from %s" % region)
+        for (region, offset), _, size in self.copies:
+            within = [kinds.get(same.of(Place(region, offset + k)), ()) for k in range(size)]
+            if region not in self.allocated and any(("ptr", 0) in of_it for of_it in within):
+                raise Failed("in %s a pointer is copied to %s, which is memory of a caller's" % region)
         self.held = {Place(region, touch.offset) for region, touches in self.touches.items() for touch in touches
                      if touch.type == "ptr"}
         for place in self.held:
@@ -239,8 +243,11 @@ class Accesses:
             same.join(value.source, at)
         for (region, _), at in self.arrays:
             same.join(region, at)
+        lent = {same.of(one) for one in [*self.slices, *(region for (region, _), _ in self.arrays)]}
         found = collections.defaultdict(set)
         for source, way in self.reached:
+            if same.of(source) not in lent:
+                raise Failed("memory that was never lent is reached by the pointer at %s" % (source,))
             found[same.of(source)].add(way)
         for parameter, way in self.slices.items():
             if found[same.of(parameter)] - {way}:

@@ -45,7 +45,7 @@ OUTSIDE = re.compile("|".join([
     % re.escape(MEMMOVE),
     r"declare void @llvm\.trap\(\) #\d", r"declare i8 @llvm\.ctlz\.i8\(i8, i1 immarg\) #\d",
     r'attributes #0 = \{ nounwind "probe-stack"="inline-asm" "target-cpu"="x86-64" \}',
-    r"attributes #\d = \{ (?:cold |nocallback |nofree |noreturn |nosync |nounwind |speculatable |willreturn )+"
+    r"attributes #[1-9] = \{ (?:cold |nocallback |nofree |noreturn |nosync |nounwind |speculatable |willreturn )+"
     r"memory\([\w: ]+\) \}",
     r"!llvm\.ident = !\{!\d+\}", r'!\d+ = !\{!"[^"]*"\}', r"!\d+ = !\{i8 \d+, i8 \d+\}", r"!\d+ = !\{\}"]))
 

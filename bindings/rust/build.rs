@@ -55,8 +55,9 @@ fn main() {
     if is("ARCH", "x86_64") && !(is("OS", "linux") && is("POINTER_WIDTH", "64")) {
         refuse(&format!("the repository's libthalluskin.a for x86-64 is for 64-bit Linux, and {} is another", target));
     }
-    // the archives for Arm of 64 bits use the registers of floats
-    let known = FOLDERS.iter().find(|(begin, _)| target.starts_with(begin) && !target.ends_with("-softfloat"));
+    // the archives use registers of floats, and are of the form ELF
+    let is_other = target.ends_with("-softfloat") || target.ends_with("-uefi");
+    let known = FOLDERS.iter().find(|(begin, _)| target.starts_with(begin) && !is_other);
     let given = env::var_os("THALLUSKIN_LIB").map(PathBuf::from);
     let is_given = given.is_some();
     let folder = match (given, known) {

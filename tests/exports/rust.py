@@ -78,6 +78,7 @@ def build_script(folder):
         (of("riscv64gc-unknown-none-elf", "riscv64"), "makes no libthalluskin.a for riscv64gc"),
         (of("aarch64-apple-darwin", "aarch64"), "makes no libthalluskin.a for aarch64-apple"),
         (of("aarch64-unknown-none-softfloat", "aarch64"), "makes no libthalluskin.a for aarch64-unknown-none-soft"),
+        (of("aarch64-unknown-uefi", "aarch64"), "makes no libthalluskin.a for aarch64-unknown-uefi"),
     ]
     for target, arch, place in (
             ("thumbv7em-none-eabihf", "arm", "cortex-m4"), ("thumbv6m-none-eabi", "arm", "cortex-m0plus"),

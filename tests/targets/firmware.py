@@ -11,18 +11,16 @@ from common import ROOT, fail, indented_blocks, read, run
 from targets.boards import ARM, EMULATORS
 from targets.tools import Need
 
+SCRIPT = os.path.join(ROOT, "thalluskin")
 FOLDER = os.path.join(ROOT, "examples", "firmware")
 BUILT = os.path.join(ROOT, "target", "firmware")
 NEEDS = [ARM, EMULATORS["qemu-system-arm"], Need("make", ["make"])]
 BOARD = ["qemu-system-arm", "-M", "mps2-an386", "-display", "none", "-monitor", "none", "-serial", "stdio", "-kernel"]
+COMPILER = ["arm-none-eabi-gcc", "-mcpu=cortex-m4", "-mthumb", "-std=c99", "-Wall", "-Wextra", "-Werror"]
+HARD_FLOATS = ["-mfloat-abi=hard", "-mfpu=fpv4-sp-d16"]
 COMPLETE, CUT = 21, 15  # pixels high
 LAST = re.compile(rb"(complete|cut, rows dropped: \d+|refused: .*|fault)\n")
 SECONDS = 60
-
-
-SCRIPT = os.path.join(ROOT, "thalluskin")
-COMPILER = ["arm-none-eabi-gcc", "-mcpu=cortex-m4", "-mthumb", "-std=c99", "-Wall", "-Wextra", "-Werror"]
-HARD_FLOATS = ["-mfloat-abi=hard", "-mfpu=fpv4-sp-d16"]
 
 
 def must(*words, **more):

@@ -62,6 +62,7 @@ EDITS = {
         added("attributes #9 = { nounwind } define void @more() #0 { unreachable }"),
         added("!9 = !{} define void @more() #0 { unreachable }"),
         added("!llvm.module.flags = !{!0}"),
+        added("attributes #0 = { noreturn nounwind memory(none) }"),
         added("declare void @elsewhere(ptr) #0"),
     ],
     "has letters": [inserted(READING, "br label %x ; preds = %y\r  store i8 0, ptr %a0, align 1")],
@@ -93,11 +94,19 @@ EDITS = {
     "is reached by another type": [
         inserted(READING, "%x = alloca ptr, align 8", "%y = alloca [16 x i8], align 8", "store i32 0, ptr %y, align 4",
                  "store ptr %y, ptr %x, align 8", "%z = load ptr, ptr %x, align 8", "store i8 0, ptr %z, align 1")],
-    "leaves its function": [
+    "a pointer is stored in memory of a caller's": [
         inserted(READING, "%y = alloca [16 x i8], align 8", "store i8 0, ptr %y, align 1",
                  "store ptr %y, ptr %a0, align 8"),
-        inserted(READING, "%x = alloca ptr, align 8", "%y = alloca [16 x i8], align 8", "store i8 0, ptr %y, align 1",
-                 "store ptr %y, ptr %x, align 8", "%z = load ptr, ptr %x, align 8", "store ptr %z, ptr %a0, align 8")],
+        inserted(READING, "%x = load ptr, ptr %a0, align 8", "store ptr %x, ptr %a0, align 8"),
+        replaced(r'(@"thalluskin::texts::thalluskin_utf8_step"\([^\n]*\{\nstart:\n).*?\n\}\n',
+                 "\\1  %p = load ptr, ptr %a1, align 8\n  %x = getelementptr i8, ptr %a0, i64 24\n"
+                 "  store ptr %p, ptr %x, align 8\n  ret void\n}\n")],
+    "a pointer is copied to %a0, which is memory of a caller's": [
+        inserted(READING, "%x = alloca [16 x i8], align 8", "%y = load ptr, ptr %a0, align 8",
+                 "store ptr %y, ptr %x, align 8", COPY % ("%a0", "%x", 16))],
+    "memory that was never lent": [
+        inserted(READING, "%x = alloca [16 x i8], align 8", "%y = load ptr, ptr %x, align 8",
+                 "%z = load i8, ptr %y, align 1")],
     "lent memory is copied": [
         inserted(READING, "%x = load ptr, ptr %a0, align 8", COPY % pair)
         for pair in (("%x", "%a0", 8), ("%a0", "%x", 8))],
@@ -121,9 +130,6 @@ EDITS = {
         inserted(READING, "%x = alloca ptr, align 8", COPY % ("%x", "%a0", 8))],
     "holds a pointer": [
         # as the whole of a function, since else the place is one of a number too
-        replaced(r'(@"thalluskin::texts::thalluskin_utf8_step"\([^\n]*\{\nstart:\n).*?\n\}\n',
-                 "\\1  %p = load ptr, ptr %a1, align 8\n  %x = getelementptr i8, ptr %a0, i64 24\n"
-                 "  store ptr %p, ptr %x, align 8\n  ret void\n}\n"),
         replaced(r'(@"%s"\([^\n]*\{\nstart:\n).*?\n\}\n' % DRAWING,
                  "\\1  %x = getelementptr i8, ptr %a3, i64 8\n  %p = load ptr, ptr %x, align 8\n"
                  "  store i8 0, ptr %p, align 1\n  ret void\n}\n")],
