@@ -1,12 +1,12 @@
 """How deep the stack grows in each function of an archive for x86-64, from their instructions: along every path what
 is pushed and what is taken off the stack's pointer, what is stored below that pointer, and under each call the callee's
 own. The kit's archive has no tables of stack sizes."""
-import platform
 import re
 
 from processors.kit import Failed, run
+from processors.table import OWN, at_hand
 
-DISASSEMBLER = "objdump" if platform.machine() == "x86_64" else "x86_64-linux-gnu-objdump"
+DISASSEMBLER = "objdump" if at_hand() == OWN else "x86_64-linux-gnu-objdump"
 ELSEWHERE = {"memcpy", "memset"}  # of the C library, and not counted
 WORD = 8
 

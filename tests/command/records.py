@@ -9,7 +9,7 @@ import sys
 
 import common
 import model
-from command.refusals import meaning, standing
+from command.refusals import refused_fonts
 from command.script import count, expect, run, store
 from common import ROOT, TESTS, fail, read
 from dump import make
@@ -175,20 +175,9 @@ def of_another_version(folder, compiler, name):
 
 
 def refused(folder):
-    """of each number the first font: the words are those of show"""
-    seen = set()
-    for name, font in make.font_files().items():
-        number = name[8:10]
-        if not name.startswith("refused_") or number in seen:
-            continue
-        seen.add(number)
-        store(folder, name, font)
-        try:
-            model.vet(font)
-            fail("%s is not refused" % name)
-        except model.Refused as r:
-            said = "refused %02d: %s (%s)\n" % (r.number, meaning(r.number), standing(r) + name)
-        got = run("record", name, folder=folder)
+    """the words are those of show"""
+    for name, font, said in refused_fonts():
+        got = run("record", store(folder, name, font), folder=folder)
         expect(name, got, 1, b"", said)
         if got.stderr != run("show", "--font", name, "12", folder=folder).stderr:
             fail("%s: show says it in other words" % name)

@@ -32,6 +32,22 @@ def standing(r):
     return "code %04X of " % r.place if r.number in (10, 11, 12, 14, 17) else ""
 
 
+def refused_fonts():
+    """of each number that vetting gives the first font that it refuses: the file, its bytes, and the script's words"""
+    seen = set()
+    for name, font in make.font_files().items():
+        number = name[8:10]
+        if not name.startswith("refused_") or number in seen:
+            continue
+        seen.add(number)
+        try:
+            model.vet(font)
+        except model.Refused as r:
+            yield name, font, "refused %02d: %s (%s)\n" % (r.number, meaning(r.number), standing(r) + name)
+            continue
+        fail("%s is not refused" % name)
+
+
 def not_shown(folder):
     """refusals: nothing on standard output, no picture, and the number and the place in words"""
     def refused(what, said, *words):
@@ -59,17 +75,7 @@ def not_shown(folder):
     refused("a cut character", "(at byte 3 of the text)", b"21 \xc2")
     refused("too long", "refused 19: %s (at byte 0 of" % meaning(19), "1" * 65536)
     refused("much too long", "refused 19", "1" * 100000)
-    seen = set()
-    for name, font in make.font_files().items():
-        number = name[8:10]
-        if not name.startswith("refused_") or number in seen:
-            continue
-        seen.add(number)
-        try:
-            model.vet(font)
-            fail("%s is not refused" % name)
-        except model.Refused as r:
-            said = "refused %02d: %s (%s)\n" % (r.number, meaning(r.number), standing(r) + name)
+    for name, font, said in refused_fonts():
         expect(name, run("show", "--font", store(folder, name, font), "12", folder=folder), 1, b"", said)
 
 

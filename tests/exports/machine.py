@@ -8,6 +8,7 @@ import shutil
 import common
 from common import ROOT, run
 from native import library
+from processors.table import OWN, at_hand
 
 ARCHIVE = library.ARCHIVE
 
@@ -32,7 +33,8 @@ def has(command, *packages):
 
 
 def is_native():
-    return platform.machine() == "x86_64"
+    """whether the kit's archive is for the machine at hand"""
+    return at_hand() == OWN
 
 
 class Native:
@@ -83,7 +85,7 @@ def native_archive():
     makes for it, which the calls are replayed with too. None where the tools are not to be had"""
     if is_native():
         return ARCHIVE
-    tools = (["gcc", "gcc", "libc6-dev"], ["ar", "binutils"], ["cargo", "cargo"])
+    tools = (["gcc", "gcc", "libc6-dev"], ["cargo", "cargo"])
     lacks = [command for command, *packages in tools if not has(command, *packages)]
     if lacks:
         print("exports: Rust and the README were not tried, because these are not there: %s" % ", ".join(lacks))
