@@ -129,7 +129,7 @@ class Accesses:
     def call(self, known, parts):
         called, given = self.functions[parts["name"]], arguments(parts["given"])
         kinds = [kind for kind, _ in called.parameters]
-        if not called.internal or parts["type"] != called.answer or [kind for kind, _ in given] != kinds:
+        if parts["type"] != called.answer or [kind for kind, _ in given] != kinds:
             raise Failed("a call does not have the function's parameters and answer")
         self.calls[self.inside].add(called.name)
         for (kind, name), (_, value) in zip(called.parameters, given):
