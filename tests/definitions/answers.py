@@ -15,6 +15,8 @@ def ask(call, font, rec, c):
     place = [old] + [c[k] for k in ("start", "stride", "scale") if k in c]
     if call == "load":
         return model.flat_record(model.load(font)), None
+    if call == "load_strict":
+        return model.flat_record(model.load(font, strict=True)), None
     if call == "vet":
         return model.flat_record(model.vet(font)), None
     if call == "get_glyph":

@@ -6,7 +6,7 @@ import model
 from definitions.answers import answer, text_of
 
 NO_FONT = ("utf8_step", "check", "hex_read", "fill_bytes", "put_refused", "dump")
-NO_RECORD = NO_FONT + ("load", "vet", "part_of")
+NO_RECORD = NO_FONT + ("load", "load_strict", "vet", "part_of")
 
 with open(os.path.join(os.path.dirname(os.path.abspath(__file__)), "seen.txt"), encoding="utf-8") as f:
     SEEN = f.read()
@@ -55,7 +55,8 @@ def term(font, rec, c):
     """what the definitions say of a case"""
     call, text = c["call"], text_term(c)
     said = {
-        "load": "saidLoaded (loaded {f})", "vet": "saidVetted (vetted {f})",
+        "load": "saidLoaded (loaded {f})", "load_strict": "saidLoaded (loadedStrictly {f})",
+        "vet": "saidVetted (vetted {f})",
         "get_glyph": "saidFound (getGlyph {f} {r} {code})", "prop_at": "saidProp (propAt {f} {r} {i})",
         "get_name": "saidNamed (getName {f} {r} {g})", "get_metrics": "saidMeasured (getMetrics {f} {r} {g})",
         "get_accelerators": "saidAccelerated (getAccelerators {f} {r})",

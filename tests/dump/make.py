@@ -14,7 +14,7 @@ from fonts import make as fonts  # noqa: E402
 from pcf import font_f, numbers, orders  # noqa: E402
 from pcf.font_f import DIGITS, THREE  # noqa: E402
 from pcf.numbers import BIG, NO_GLYPH, TOP, padded  # noqa: E402
-from pcf.rewriting import askew, reordered, with_size  # noqa: E402
+from pcf.rewriting import askew, reordered, with_format, with_size  # noqa: E402
 from pcf.tables import (PADS, accelerators, bitmaps, codes, font, laid_out, names, narrow_metrics,  # noqa: E402
                         properties, row_stride, wide_metrics)
 
@@ -127,15 +127,15 @@ def last_tables():
 
 
 def mixed_orders():
-    """every second table big-endian, and a format word that misleads in each"""
-    return font([askew(table) for table in (
+    """the tables of a font, every second one big-endian"""
+    return [
         properties(BIG, [(0, 1, 5)], b"FONT\0F\0"),
         bounds((0, 0, 8, 4, 0, 0), 0),
         wide_metrics(BIG, [(1, 0, 8, 2, 1, 0), (0, 0, 4, 4, 0, 0)]),
         bitmaps(TOP, [4, 0], [7, 0, 0, 0], bytes(range(0x10, 0x17))),
         codes(BIG, (0x30, 0x31), (0, 0), 0x30, [1, 0]),
         names(0, [4, 0], b"one\0nil\0"),
-    )])
+    ]
 
 
 def glyph_256():
@@ -215,15 +215,18 @@ def loading():
     yield "entries_64", fonts.limits(64)
     yield "last_tables_serve", last_tables()
     yield "refused_12_last_bitmaps_serve", fonts.repeated()
+    yield from fonts.of_two_formats().items()
+    yield "refused_27_mixed_orders", font([askew(table) for table in mixed_orders()])
 
 
 def vetting():
     open_name = properties(0, [(0, 0, 9)], b"AB")
     no_glyphs = codes(0, (0x30, 0x31), (0, 0), 0x30, [NO_GLYPH, NO_GLYPH])
     bad_bounds = bounds((0, 0, -1, 3, 0, 0))
-    # 13, and that it is first
+    # 13, and that it is first once the font is loaded
     units_of_code_3 = bitmaps(TOP | 48 | 3, [0, 3], [6] * 4, bytes(6))
     yield "refused_13_unit_code_3", digits_but(units_of_code_3)
+    yield "refused_27_before_13", with_format(digits_but(units_of_code_3), 3, TOP)
     yield "refused_13_unit_code_3_lowest_bit_left", digits_but(bitmaps(48 | 3, [0, 3], [6] * 4, bytes(6)))
     for unit, pad in ((2, 1), (4, 1), (4, 2)):
         for top in (True, False):
@@ -320,7 +323,7 @@ def frames():
         names(0, [0, 254], bytes(range(1, 256)) + b"\0"))
     for pad, form in ((1, 0), (2, BIG), (4, 0), (8, BIG)):
         yield "row_pad_%d_%s_endian" % (pad, "big" if form else "little"), in_rows(pad, form)
-    yield "mixed_orders", mixed_orders()
+    yield "mixed_orders", font(mixed_orders())
     yield "largest_frame", largest_frame()
 
 

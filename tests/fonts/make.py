@@ -1,8 +1,8 @@
 """Fonts that the tests are asked about, each from a description of its tables."""
 from pcf.font_f import DIGITS, THREE, two_digits
-from pcf.numbers import BIG, NO_GLYPH, TOP
+from pcf.numbers import BIG, NO_GLYPH, TOP, word
 from pcf.orders import order_bits
-from pcf.rewriting import askew, reordered, with_bytes, with_offset, with_size
+from pcf.rewriting import askew, reordered, with_bytes, with_format, with_offset, with_own_format, with_size
 from pcf.tables import (accelerators, bitmaps, codes, font, names, narrow_metrics, other, properties,
                         wide_metrics)
 
@@ -79,6 +79,46 @@ def refusals():
         font(DIGITS[:4] + [codes(0, (0x32, 0x31), (0, 0), 0x30, [0, 1])] + DIGITS[5:]),
         font(DIGITS[:5]),
     ]
+
+
+def unread():
+    """tables of types that are not read, each with another format in the directory: some have bits of known types"""
+    return [other(kind, word(BIG)) for kind in (0, 3, 16, 64, 257, 512, 2 ** 24, 2 ** 31 + 1)]
+
+
+def of_two_formats():
+    """a table's format is not the directory's, as strict loading refuses it with 27; and what is tested before and
+    after that. A name says what strict loading says"""
+    f, top = two_digits(), 2 ** 31
+    low_above_high = refusals()[6]
+    empty_last = font(DIGITS[:5] + [names(0, [], b"")])
+    after_4_bytes = len(empty_last) - 8  # of its last table
+    twice = font(DIGITS + [names(0, [0, 2], b"a\0b\0")])
+    of_256 = font(DIGITS[:1] + [accelerators(0, [0] * 8, 3, 0, 0, THREE, THREE, kind=256)] + DIGITS[2:])
+    made = {"refused_27_type_%d" % kind: with_format(f, k, form ^ BIG) for k, (kind, form, _) in enumerate(DIGITS)}
+    made.update({
+        "refused_27_type_256": with_format(of_256, 1, BIG),
+        "refused_27_top_bit_of_the_directory": with_format(f, 1, top),
+        "refused_27_top_bit_of_the_table": with_own_format(f, 4, top),
+        "top_bit_of_both": with_own_format(with_format(f, 1, top), 1, top),
+        "refused_27_first_of_a_type": with_format(twice, 5, BIG),
+        "refused_27_last_of_a_type": with_format(twice, 6, BIG),
+        "unread_types_differ": font(unread()[:4] + DIGITS + unread()[4:]),
+        "refused_06_in_3_bytes_of_table": with_size(with_format(f, 4, BIG), 4, 3),
+        "refused_27_in_4_bytes_of_table": with_size(with_format(f, 4, BIG), 4, 4),
+        "refused_06_in_4_bytes_of_table": with_size(f, 4, 4),
+        "refused_06_in_3_bytes_of_file": with_format(empty_last, 5, BIG)[:after_4_bytes - 1],
+        "refused_27_in_4_bytes_of_file": with_format(empty_last, 5, BIG)[:after_4_bytes],
+        "refused_27_before_06": with_size(with_format(f, 1, BIG), 1, 47),
+        "refused_27_before_07": with_format(low_above_high, 4, BIG),
+        "refused_27_before_08": with_format(font(DIGITS[:5]), 4, BIG),
+        "refused_27_before_a_later_05": with_offset(with_format(f, 0, BIG), 5, len(f) + 1),
+        "refused_27_before_a_later_27": with_format(with_format(f, 5, BIG), 2, 0),
+        "refused_05_before_27": with_offset(with_format(f, 3, 0), 3, len(f) + 1),
+        "refused_06_before_a_later_27": with_format(with_size(f, 1, 47), 2, 0),
+        "refused_07_before_a_later_27": with_format(low_above_high, 5, BIG),
+    })
+    return made
 
 
 def files():

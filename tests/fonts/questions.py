@@ -1,5 +1,5 @@
-"""What is asked of each font of make.py, in the form of replay/calls.py: its record, its properties, accelerators and
-dimensions, every code, names and metrics; and the same with a record that is broken."""
+"""What is asked of each font of make.py, in the form of replay/calls.py: its record, that of strict loading, its
+properties, accelerators and dimensions, every code, names and metrics; and the same with a record that is broken."""
 import model
 from fonts import make
 from replay.calls import asks, but
@@ -29,15 +29,27 @@ def broken(end):
     ]
 
 
-def questions(font):
-    """none of a font that does not load, which is refused before any"""
+def loaded(font):
+    """its record, None if it does not load"""
     try:
-        rec = model.load(font)
+        return model.load(font)
     except model.Refused:
+        return None
+
+
+def loadings(font):
+    """of a font that does not load that is told before any question"""
+    return [asks("load_pcf")] * (loaded(font) is not None) + [asks("load_strict")]
+
+
+def questions(font):
+    """but for the loadings none of a font that does not load"""
+    yield from loadings(font)
+    rec = loaded(font)
+    if rec is None:
         return
     found = [code for code in range(65536) if model.lookup(font, rec, code) is not None]
     whole = [asks("accelerators"), asks("dimensions")]
-    yield asks("load_pcf")
     for number in range(rec["props"]["count"] + 1):
         yield asks("prop_at", code=number)
     yield from whole
@@ -55,3 +67,4 @@ def questions(font):
 def topics():
     """a file's name, and its fonts with their calls"""
     yield "fonts", [(font, list(questions(font))) for font in make.files().values()]
+    yield "fonts_of_two_formats", [(font, loadings(font)) for font in make.of_two_formats().values()]

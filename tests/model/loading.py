@@ -1,9 +1,11 @@
-"""Loading: the directory and the six tables, and refusals 1 to 8."""
+"""Loading: the directory and the six tables, and refusals 1 to 8; strict loading refuses 27 besides."""
 from model.reads import bit, bounds12, i32, u16, u32
 from model.refusal import Refused
 
+KNOWN = (1, 2, 4, 8, 32, 128, 256)  # the types of the tables that are read
 
-def load(b):
+
+def load(b, strict=False):
     n = len(b)
     if n < 8:
         raise Refused(1)
@@ -27,6 +29,10 @@ def load(b):
         end = off + size
         if end > n:
             end = n
+        if strict and typ in KNOWN:
+            need(e, off, end, 4)
+            if u32(b, off, False) != fmt:
+                raise Refused(27, e)
         if typ == 1:
             found["props"] = load_props(b, e, off, end)
         elif typ == 2 or typ == 256:

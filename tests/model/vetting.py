@@ -1,4 +1,4 @@
-"""Vetting: loading, then every property and every code."""
+"""Vetting: strict loading, then every property and every code."""
 from model.codes import lookup
 from model.drawing import cannot_draw, rows_in_data
 from model.loading import load
@@ -8,7 +8,7 @@ from model.strings import name_part, property_parts
 
 
 def vet(b):
-    rec = load(b)
+    rec = load(b, strict=True)
     if cannot_draw(rec["bitmaps"]):
         raise Refused(13)
     if not bounds_hold(rec):

@@ -17,6 +17,16 @@ def with_offset(b, number, offset):
     return with_bytes(b, 8 + 16 * number + 12, word(offset))
 
 
+def with_format(b, number, form):
+    """the format in the directory"""
+    return with_bytes(b, 8 + 16 * number + 4, word(form))
+
+
+def with_own_format(b, number, form):
+    """the format that the table itself has"""
+    return with_bytes(b, reading.directory(b)[number][3], word(form))
+
+
 def askew(table, bits=BIG):
     """the format word that does not count says otherwise, in these bits: the directory's, or the metrics' own"""
     kind, form, content = table

@@ -8,7 +8,7 @@ CALL = 64  # bytes of a call
 DRAWING = ["draw_bitmap", "draw_glyph", "draw_char", "unpack_glyph", "prep_char", "show_glyph", "draw_string",
            "step_at"]
 READING = ["load_pcf", "prop_at", "get_glyph", "get_name", "get_metrics", "dimensions", "accelerators", "name_bytes",
-           "all_codes"]
+           "all_codes", "load_strict"]
 PUTTING = ["check", "put_frame", "put_refused", "fill_bytes"]
 KINDS = ["change", *DRAWING, *READING, *PUTTING]
 # the record's fields as crates/replay/src/changes.rt numbers them

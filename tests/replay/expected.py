@@ -36,6 +36,7 @@ READING = {
     "accelerators": [6],
     "name_bytes": [],
     "all_codes": [],
+    "load_strict": [1, 2, 3, 4, 5, 6, 7, 8, 27],
 }
 PUTTING = {
     "check": [19],
@@ -102,6 +103,8 @@ def read_numbers(b, rec, c):
     call = c["call"]
     if call == "load_pcf":
         return model.flat_record(rec)
+    if call == "load_strict":
+        return model.flat_record(model.load(b, strict=True))
     if call == "prop_at":
         return model.prop_at(b, rec, c["code"])
     if call == "get_glyph":
@@ -184,7 +187,8 @@ def lines(b, of_font, seen):
     except model.Refused as r:
         seen["load_pcf", r.number] += 1
         yield "%-12s %s" % ("load_pcf", r)
-        return
+        # no call is made then but strict loading, where that is the first
+        loaded, of_font = None, [c for c in of_font[:1] if c["call"] == "load_strict"]
     for k, c in enumerate(of_font):
         text, number = line(b, model.changed(loaded, c.get("rec", {})), c, calls.colour(c, k))
         seen[c["call"], number] += 1

@@ -35,6 +35,14 @@ pub struct Font<'a> {
     pub rec: Record,
 }
 
+// How a font's bytes are read where no record is given: as `load::load_pcf` does, as `load::load_strict`
+// does, or as `vet::vet` does.
+pub enum Reading {
+    Tolerant,
+    Strict,
+    Vetted,
+}
+
 // The view of these bytes with this record. Nothing is tested here: each function of the view refuses a
 // record that fails its test with the bytes, with 6, as the function that it calls does.
 pub fn open<'a>(bytes: &'a [u8], rec: Record) -> Font<'a>

@@ -1,9 +1,11 @@
 // Drawing with a font's bytes alone: the record is read from them, and the drawing goes through the view.
 // No parameter is a view, so whoever calls these has nothing to prove of one.
+use crate::Reading;
 use crate::open;
 use glyphs::CharDrawn;
 use load::Loaded;
 use load::load_pcf;
+use load::load_strict;
 use reads::CharCode;
 use tables::Record;
 use text::TextDrawn;
@@ -17,19 +19,22 @@ ghost use Rattle.glyphs.specs.Char.{drawChar, charLeaves};
 ghost use Rattle.text.specs.Text.{drawString, stringLeaves};
 ghost use Rattle.font.specs.Shown.{recordOf, showChar, showCharLeaves, showString, showStringLeaves};
 
-// The record of a font's bytes. With `vetting` a font must pass it, and is refused as `vet::vet` refuses
-// it; without, loading is enough, and the refusals are those of `load::load_pcf`.
-pub fn record_of(bytes: &[u8], vetting: bool) -> Loaded
-    ensures { λ r. ⌜ r ≡ recordOf (now (bytes .entry)) vetting ⌝ }
+// The record of a font's bytes, read as `reading` says: refused as `load::load_pcf`, `load::load_strict` or
+// `vet::vet` refuses them.
+pub fn record_of(bytes: &[u8], reading: Reading) -> Loaded
+    ensures { λ r. ⌜ r ≡ recordOf (now (bytes .entry)) reading ⌝ }
 {
-    if vetting {
-        let vetted = vet(bytes);
-        return match vetted {
-            Vetted::Passed(rec) => Loaded::Font(rec),
-            Vetted::Refused(r) => Loaded::Refused(r),
-        };
+    match reading {
+        Reading::Tolerant => load_pcf(bytes),
+        Reading::Strict => load_strict(bytes),
+        Reading::Vetted => {
+            let vetted = vet(bytes);
+            match vetted {
+                Vetted::Passed(rec) => Loaded::Font(rec),
+                Vetted::Refused(r) => Loaded::Refused(r),
+            }
+        }
     }
-    load_pcf(bytes)
 }
 
 // `Font::draw_char` of the view of these bytes with this record.
@@ -72,7 +77,7 @@ pub fn string_through(
 // more than one, keep the record and take `char_through` or the view.
 pub fn show_char(
     bytes: &[u8],
-    vetting: bool,
+    reading: Reading,
     code: CharCode,
     buf: &mut [u32],
     start: usize,
@@ -80,10 +85,10 @@ pub fn show_char(
     scale: usize,
     colour: u32,
 ) -> CharDrawn
-    ensures { λ r. ⌜ r ≡ showChar (now (bytes .entry)) vetting (code .0) (length (now (buf .entry))) (placeAt start stride scale) ⌝ }
-    ensures { λ r. ⌜ now (buf .exit) ≡ showCharLeaves (now (bytes .entry)) vetting (placeAt start stride scale) colour r (now (buf .entry)) ⌝ }
+    ensures { λ r. ⌜ r ≡ showChar (now (bytes .entry)) reading (code .0) (length (now (buf .entry))) (placeAt start stride scale) ⌝ }
+    ensures { λ r. ⌜ now (buf .exit) ≡ showCharLeaves (now (bytes .entry)) reading (placeAt start stride scale) colour r (now (buf .entry)) ⌝ }
 {
-    let loaded = record_of(bytes, vetting);
+    let loaded = record_of(bytes, reading);
     match loaded {
         Loaded::Font(rec) => {
             char_through(bytes, rec, code, &mut *buf, start, stride, scale, colour)
@@ -97,7 +102,7 @@ pub fn show_char(
 // `show_char` does.
 pub fn show_string(
     bytes: &[u8],
-    vetting: bool,
+    reading: Reading,
     text: &[u8],
     buf: &mut [u32],
     start: usize,
@@ -106,10 +111,10 @@ pub fn show_string(
     scale: usize,
     colour: u32,
 ) -> TextDrawn
-    ensures { λ r. ⌜ r ≡ showString (now (bytes .entry)) vetting (now (text .entry)) (length (now (buf .entry))) (record { start = start; wrap = wrap; stride = stride; scale = scale }) ⌝ }
-    ensures { λ r. ⌜ now (buf .exit) ≡ showStringLeaves (now (bytes .entry)) vetting (now (text .entry)) (record { start = start; wrap = wrap; stride = stride; scale = scale }) colour r (now (buf .entry)) ⌝ }
+    ensures { λ r. ⌜ r ≡ showString (now (bytes .entry)) reading (now (text .entry)) (length (now (buf .entry))) (record { start = start; wrap = wrap; stride = stride; scale = scale }) ⌝ }
+    ensures { λ r. ⌜ now (buf .exit) ≡ showStringLeaves (now (bytes .entry)) reading (now (text .entry)) (record { start = start; wrap = wrap; stride = stride; scale = scale }) colour r (now (buf .entry)) ⌝ }
 {
-    let loaded = record_of(bytes, vetting);
+    let loaded = record_of(bytes, reading);
     match loaded {
         Loaded::Font(rec) => {
             string_through(

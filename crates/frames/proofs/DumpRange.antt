@@ -3,7 +3,7 @@ use mathlib.Core.Path.{_≡_, refl}
 use mathlib.Core.List.{List}
 use Prim.Native.Nat.{ℕ, _-_}
 use Rattle.tables.specs.declared.Record.{Record}
-use Rattle.load.specs.Load.{loaded}
+use Rattle.load.specs.Load.{loadedStrictly}
 use Rattle.load.specs.declared.Loaded.{Loaded}
 use Rattle.lookup.specs.CodeRange.{codeRange}
 use Rattle.hexline.specs.Lines.{hexRead, hexBytes}
@@ -35,7 +35,7 @@ loadedInRange s (Loaded.Font rec) = printInRange s (vetInRange s rec)
 loadedInRange s (Loaded.Refused r) = refusedLine (r .number)
 
 abbrev pub readInRange : List ℕ → HexRead → List ℕ
-readInRange s (HexRead.Bytes n) = loadedInRange s (loaded s)
+readInRange s (HexRead.Bytes n) = loadedInRange s (loadedStrictly s)
 readInRange s (HexRead.Refused r) = refusedLine (r .number)
 
 module _ (s : List ℕ) where
@@ -53,7 +53,7 @@ module _ (s : List ℕ) where
 
   reads : (x : HexRead) → dumpRead s x ≡ readInRange s x
   unfolding vetted
-  reads (HexRead.Bytes n) = loads (loaded s)
+  reads (HexRead.Bytes n) = loads (loadedStrictly s)
   reads (HexRead.Refused r) = refl
 
 pub dump-in-range : (text : List ℕ) → dumped text ≡ readInRange (hexBytes text) (hexRead text)

@@ -67,7 +67,7 @@ passed-whole s rec passed code r e = by (glyphOf s (rec .codes) code) refl where
 -- where there is room for a frame of so many bytes
 module _ (s : List ℕ) (rec : Record) (passed : vetted s ≡ Vetted.Passed rec) (code room : ℕ) (enough : 34 + 4 * length s ≤ room) where
   fits : recordFits (length s) rec ≡ true
-  fits = loaded-serves s rec (passes-when s rec .0 passed .0)
+  fits = loaded-serves true s rec (passes-when s rec .0 passed .0)
 
   only-lacking : (x : Prepared) → wholeGlyph s rec code ≡ x → (q : Refusal) → glyphInto s rec code room x ≡ Printed.Refused q → glyphOf s (rec .codes) code ≡ Found.Refused q
   only-lacking (Prepared.Info i) e q d =

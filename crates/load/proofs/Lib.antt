@@ -4,3 +4,5 @@ pub mod LastServes
 mod TablesFit
 pub mod Refusals
 pub mod Serves
+pub mod StrictLoading
+pub mod KnownTypes

@@ -1,8 +1,8 @@
 -- A record that loading gave serves with its bytes: no call with both is refused 6.
 use mathlib.Core.Path.{_≡_, refl, subst}
-use mathlib.Core.Bool.{true, false, not, _&&_}
+use mathlib.Core.Bool.{Bool, true, false, not, _&&_}
 use mathlib.Core.List.{List}
-use Prim.Native.Nat.{ℕ, zero, suc, _+_, _*_, min}
+use Prim.Native.Nat.{ℕ, zero, suc, _+_, _*_, _≤_, min}
 use native.Mathlib.Omega.{arith}
 use lib.ListN.{length}
 use lib.Dec.{ltb, eqb}
@@ -13,7 +13,8 @@ use Rattle.load.specs.declared.Gathered.{Gathered}
 use Rattle.load.specs.declared.Entered.{Entered}
 use Rattle.load.specs.declared.Loaded.{Loaded}
 use Rattle.load.specs.Gather.{nothing, added, allSix, finished}
-use Rattle.load.specs.Load.{tableAt, entryOf, entryAt, afterEntry, entriesFrom, loaded}
+use Rattle.load.specs.Load.{formatDiffers, tableIn, entryOf, entryKind, entryFormat, entrySize, entryOffset, entryAt, afterEntry, entriesFrom}
+use Rattle.load.specs.Load.{directoryCount, loadedIn}
 use Rattle.tables.specs.declared.TableRead.{TableRead}
 use Rattle.tables.specs.declared.Record.{Record}
 use Rattle.load.proofs.TablesFit.{ReadFits, table-read}
@@ -41,16 +42,19 @@ added-fits len g f (TableRead.Accelerators t) h = search
 added-fits len g f TableRead.Other h = f
 added-fits len g f (TableRead.Refused n) h = tt
 
-entry-fits : (s : List ℕ) (g : Gathered) → Fitting (length s) g → (k : ℕ) → EnteredFits (length s) (entryAt s k g)
+table-fits : (strict : Bool) (s : List ℕ) (kind format at end : ℕ) → end ≤ length s → ReadFits (length s) (tableIn strict s kind format at end)
+unfolding tableIn
+table-fits strict s kind format at end h =
+    either (ReadFits (length s)) (strict && formatDiffers s kind format at end) tt (table-read s at end h kind format)
+
+entry-fits : (strict : Bool) (s : List ℕ) (g : Gathered) → Fitting (length s) g → (k : ℕ) → EnteredFits (length s) (entryAt strict s k g)
 unfolding entryAt entryOf
-entry-fits s g f k =
-    let at = 8 + 16 * k in
-    let kind = u32At false s at in
-    let format = u32At false s (at + 4) in
-    let offset = u32At false s (at + 12) in
-    let end = min (offset + u32At false s (at + 8)) (length s) in
-    either (EnteredFits (length s)) (ltb (length s) offset) tt
-    (added-fits (length s) g f (tableAt s kind format offset end) (table-read s offset end (omega arith) kind format))
+entry-fits strict s g f k =
+    let at = entryOffset s k in
+    let end = min (at + entrySize s k) (length s) in
+    let table = tableIn strict s (entryKind s k) (entryFormat s k) at end in
+    either (EnteredFits (length s)) (ltb (length s) at) tt
+    (added-fits (length s) g f table (table-fits strict s (entryKind s k) (entryFormat s k) at end (omega arith)))
 
 -- what loading gives, with the bytes it was given
 abbrev LoadedFits : ℕ → Loaded → Type 0
@@ -77,23 +81,23 @@ after-fits :
 after-fits len k rest h (Entered.Next g) f = h g f
 after-fits len k rest h (Entered.Refused n) f = tt
 
-entries-fit : (s : List ℕ) (n k : ℕ) (g : Gathered) → Fitting (length s) g → LoadedFits (length s) (entriesFrom s n k g)
+entries-fit : (strict : Bool) (s : List ℕ) (n k : ℕ) (g : Gathered) → Fitting (length s) g → LoadedFits (length s) (entriesFrom strict s n k g)
 unfolding entriesFrom
-entries-fit s zero k g f = finished-fits (length s) g f
-entries-fit s (suc n) k g f =
-    after-fits (length s) k (λ h. entriesFrom s n (k + 1) h) (λ h. entries-fit s n (k + 1) h) (entryAt s k g) (entry-fits s g f k)
+entries-fit strict s zero k g f = finished-fits (length s) g f
+entries-fit strict s (suc n) k g f =
+    after-fits (length s) k (λ h. entriesFrom strict s n (k + 1) h) (λ h. entries-fit strict s n (k + 1) h) (entryAt strict s k g) (entry-fits strict s g f k)
 
-loaded-fits : (s : List ℕ) → LoadedFits (length s) (loaded s)
-unfolding loaded
-loaded-fits s =
+loaded-fits : (strict : Bool) (s : List ℕ) → LoadedFits (length s) (loadedIn strict s)
+unfolding loadedIn
+loaded-fits strict s =
     let P = LoadedFits (length s) in
-    let count = u32At false s 4 in
+    let count = directoryCount s in
     either P (ltb (length s) 8) tt
     (either P (not (eqb (u32At true s 0) 0x01666370)) tt
     (either P (ltb 64 count) tt
     (either P (ltb (length s) (8 + 16 * count)) tt
-    (entries-fit s count 0 nothing (record { props = never; metrics = never; bitmaps = never; codes = never; names = never })))))
+    (entries-fit strict s count 0 nothing (record { props = never; metrics = never; bitmaps = never; codes = never; names = never })))))
 
--- the record that loading gives serves with the bytes that it was loaded from
-pub loaded-serves : (s : List ℕ) (r : Record) → loaded s ≡ Loaded.Font r → recordFits (length s) r ≡ true
-loaded-serves s r e = subst (LoadedFits (length s)) e (loaded-fits s)
+-- the record that loading gives, strict or not, serves with the bytes that it was loaded from
+pub loaded-serves : (strict : Bool) (s : List ℕ) (r : Record) → loadedIn strict s ≡ Loaded.Font r → recordFits (length s) r ≡ true
+loaded-serves strict s r e = subst (LoadedFits (length s)) e (loaded-fits strict s)

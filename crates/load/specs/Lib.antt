@@ -1,3 +1,4 @@
 pub mod Parts
 pub mod Gather
 pub mod Load
+pub mod Formats

@@ -1,5 +1,6 @@
 // An example: what a meter's firmware asks of the library. Standard input has a font file; the program says
 // whether the caretaker may copy the page, once for a panel that is high enough and once for one that is not.
+use font::Reading;
 use load::Loaded;
 use lookup::Found;
 use reads::CharCode;
@@ -25,7 +26,17 @@ fn has_zero(file: &[u8]) -> bool {
 // cut. Where some were, the rest is shown all the same; where the font or the text is refused, the panel is as
 // it was.
 fn uncut(file: &[u8], text: &[u8], panel: &mut [u32]) -> bool {
-    let drawn = font::show_string(file, true, text, &mut *panel, 0, Wrap::At(241), 240, 2, 1);
+    let drawn = font::show_string(
+        file,
+        Reading::Vetted,
+        text,
+        &mut *panel,
+        0,
+        Wrap::At(241),
+        240,
+        2,
+        1,
+    );
     match drawn {
         TextDrawn::Done(rows) => rows.dropped == 0,
         TextDrawn::Refused(_) => false,

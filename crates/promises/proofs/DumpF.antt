@@ -8,7 +8,7 @@ use Rattle.tables.specs.Bitmaps.{bitmapsTable, bitmapsAt}
 use Rattle.tables.specs.Codes.{codesTable, codesAt}
 use Rattle.tables.specs.Names.{namesTable, namesAt}
 use Rattle.load.specs.Gather.{finished}
-use Rattle.load.specs.Load.{tableAt, entryOf, entryAt, entriesFrom, loaded}
+use Rattle.load.specs.Load.{tableAt, formatDiffers, tableIn, entryOf, entryAt, entriesFrom, loadedIn}
 use Rattle.lookup.specs.Lookup.{slotOf, glyphOf}
 use Rattle.lookup.specs.CodeRange.{codeRange}
 use Rattle.metrics.specs.Measure.{metricsOf}
@@ -36,7 +36,7 @@ use Rattle.promises.specs.FontF.{linesF, framesF}
 in-range : readInRange (hexBytes (typedLines linesF)) (hexRead (typedLines linesF)) ≡ typedLines framesF
 unfolding linesF framesF typed typedLines hexBytes linesOf digitOf goodLine bytesFrom hexRead digits numAt signed
     less128 propertiesTable propertiesAt acceleratorsTable acceleratorsAt wideAt narrowAt metricsTable metricsAt
-    bitmapsTable bitmapsAt codesTable codesAt namesTable namesAt finished tableAt entryOf entryAt entriesFrom loaded
+    bitmapsTable bitmapsAt codesTable codesAt namesTable namesAt finished tableAt formatDiffers tableIn entryOf entryAt entriesFrom loadedIn
     slotOf glyphOf metricsOf zeroFrom stringAt nameOf propOf some byteOf bytesPast rowsShort boundsHold placeable infoOf prepared wholeBox wholeGlyph
     firstFault codeFault hexDigit field frame frameOf framesFrom offsetOf propFault boxFault
     allDigits pairs allPairs hexAll bitAt packed rowByte rowFrom rowsFrom codeRange

@@ -9,7 +9,7 @@ use Rattle.reads.specs.Said.{refusal, refuses}
 use Rattle.reads.proofs.Numbers.{nought-answers}
 use Rattle.tables.specs.Fits.{guarded}
 use Rattle.tables.specs.declared.Record.{Record}
-use Rattle.load.specs.Load.{loaded, saidLoaded}
+use Rattle.load.specs.Load.{loaded, loadedStrictly, saidLoaded}
 use Rattle.load.specs.declared.Loaded.{Loaded}
 use Rattle.vet.specs.Vet.{vetted, saidVetted}
 use Rattle.vet.specs.declared.Vetted.{Vetted}
@@ -44,12 +44,13 @@ use Rattle.text.specs.Text.{drawString, saidText}
 use Rattle.text.specs.declared.Layout.{Layout}
 use Rattle.text.specs.declared.TextDrawn.{TextDrawn}
 use Rattle.font.specs.Shown.{asLoaded, recordOf}
+use Rattle.font.specs.declared.Reading.{Reading}
 use Rattle.thalluskin.specs.Modes.{isKnown}
 use Rattle.thalluskin.specs.Reading.{fontAnswer, propAnswer, propertyAnswer, glyphAnswer, nameAnswer, metricsAnswer, accelAnswer}
 use Rattle.thalluskin.specs.Placing.{extentAnswer, infoAnswer}
 use Rattle.thalluskin.specs.Drawing.{rowsAnswer, charAnswer, unpackAnswer}
 use Rattle.thalluskin.specs.Texts.{textAnswer, stepAnswer}
-use Rattle.load.proofs.Refusals.{load-pcf-refusals}
+use Rattle.load.proofs.Refusals.{load-pcf-refusals, load-strict-refusals}
 use Rattle.utf8.proofs.Refusals.{step-at-refusals}
 use Rattle.vet.proofs.Refusals.{vet-refusals}
 use Rattle.promises.specs.Refusals.{Answers}
@@ -136,12 +137,14 @@ property-read : (x : PropFound) → Answers (saidProp x) → saysProperty (prope
 property-read (PropFound.Property p) h = value-read (p .name) (p .value)
 property-read (PropFound.Refused r) h = a-refusal (r .number) (r .place) _ h
 
-pub load-says : (s : List ℕ) → saysFont (fontAnswer (recordOf s false)) ≡ saidLoaded (loaded s)
-unfolding recordOf
+pub load-says : (s : List ℕ) → saysFont (fontAnswer (loaded s)) ≡ saidLoaded (loaded s)
 load-says s = font-read (loaded s) (nought-answers refl (load-pcf-refusals s))
 
+pub load-strict-says : (s : List ℕ) → saysFont (fontAnswer (loadedStrictly s)) ≡ saidLoaded (loadedStrictly s)
+load-strict-says s = font-read (loadedStrictly s) (nought-answers refl (load-strict-refusals s))
+
 -- in mode 0; in any other number it is `vet-unknown`
-pub vet-says : (s : List ℕ) → saysFont (fontAnswer (cond (isKnown 0) (recordOf s true) (Loaded.Refused (refusal 15 0)))) ≡ saidVetted (vetted s)
+pub vet-says : (s : List ℕ) → saysFont (fontAnswer (cond (isKnown 0) (recordOf s Reading.Vetted) (Loaded.Refused (refusal 15 0)))) ≡ saidVetted (vetted s)
 unfolding recordOf
 vet-says s = vet-read (vetted s) (nought-answers refl (vet-refusals s))
 

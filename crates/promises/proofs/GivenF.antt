@@ -13,7 +13,7 @@ use Rattle.tables.specs.Bitmaps.{bitmapsTable, bitmapsAt}
 use Rattle.tables.specs.Codes.{codesTable, codesAt}
 use Rattle.tables.specs.Names.{namesTable, namesAt}
 use Rattle.load.specs.Gather.{finished}
-use Rattle.load.specs.Load.{tableAt, entryOf, entryAt, entriesFrom, loaded}
+use Rattle.load.specs.Load.{tableAt, formatDiffers, tableIn, entryOf, entryAt, entriesFrom, loadedIn, loadedStrictly}
 use Rattle.load.specs.declared.Loaded.{Loaded}
 use Rattle.lookup.specs.Lookup.{slotOf, glyphOf}
 use Rattle.lookup.specs.CodeRange.{codeRange}
@@ -52,10 +52,10 @@ by-range s (Loaded.Font rec) = vets s rec
 by-range s (Loaded.Refused r) = refl
 
 -- by the two codes in the table's range
-F-passes : IsPassed (loadedInRange F (loaded F))
+F-passes : IsPassed (loadedInRange F (loadedStrictly F))
 unfolding F linesF typed typedLines hexBytes linesOf digitOf digits numAt signed less128 propertiesTable propertiesAt
     acceleratorsTable acceleratorsAt wideAt narrowAt metricsTable metricsAt bitmapsTable bitmapsAt codesTable codesAt
-    namesTable namesAt finished tableAt entryOf entryAt entriesFrom loaded slotOf glyphOf metricsOf zeroFrom stringAt
+    namesTable namesAt finished tableAt formatDiffers tableIn entryOf entryAt entriesFrom loadedIn slotOf glyphOf metricsOf zeroFrom stringAt
     nameOf propOf some byteOf bytesPast rowsShort boundsHold placeable infoOf firstFault codeFault offsetOf propFault boxFault
     pairs allPairs codeRange
 F-passes = tt
@@ -66,7 +66,7 @@ record-of (Vetted.Refused r) p = absurd p
 
 pub passed-F : (rec : Record) × (vetted F ≡ Vetted.Passed rec)
 unfolding vetted
-passed-F = record-of (vetted F) (subst IsPassed (sym (by-range F (loaded F))) F-passes)
+passed-F = record-of (vetted F) (subst IsPassed (sym (by-range F (loadedStrictly F))) F-passes)
 
 zero-one : WellFormed (typed "01")
 unfolding typed lines

@@ -10,7 +10,7 @@ use Rattle.reads.proofs.Numbers.{has-number, whichever, one-more, listed, not-i
 use Rattle.reads.proofs.Tests.{never, split}
 use Rattle.tables.specs.Fits.{recordFits, tested, guarded}
 use Rattle.tables.specs.declared.Record.{Record}
-use Rattle.load.specs.Load.{loaded}
+use Rattle.load.specs.Load.{loadedIn}
 use Rattle.load.specs.declared.Loaded.{Loaded}
 use Rattle.load.proofs.Serves.{loaded-serves}
 use Rattle.promises.specs.Refusals.{Refusals}
@@ -36,6 +36,6 @@ module _ (s : List ℕ) (rec : Record) where
         tested-refusals (cond within answer (refused (refusal 15 0))) out
         (λ t. whichever said within (one-more (h t)) (rw (tells (refusal 15 0)) (has-number refl)))
 
-  -- no call with a loaded record and its own bytes is refused 6
-  pub loaded-never-six : {ns : List ℕ} {a : Said} → Refusals s rec ns a → loaded s ≡ Loaded.Font rec → a .number ≡ 6 → ⊥
-  loaded-never-six x l e = never (sym (x .six .0 e) ∙ loaded-serves s rec l)
+  -- no call with a record that loading gave, strict or not, and its own bytes is refused 6
+  pub loaded-never-six : (strict : Bool) {ns : List ℕ} {a : Said} → Refusals s rec ns a → loadedIn strict s ≡ Loaded.Font rec → a .number ≡ 6 → ⊥
+  loaded-never-six strict x l e = never (sym (x .six .0 e) ∙ loaded-serves strict s rec l)

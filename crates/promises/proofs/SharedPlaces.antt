@@ -34,7 +34,7 @@ found-number (PropFound.Refused r) = refl
 
 module _ (s : List ℕ) (rec : Record) (l : loaded s ≡ Loaded.Font rec) where
   fits : recordFits (length s) rec ≡ true
-  fits = loaded-serves s rec l
+  fits = loaded-serves false s rec l
 
   held : boundsHold (boundsOf rec) ≡ true → saidSized (dimensions s rec) .number ≡ 0
   unfolding dimensions boundsSized
@@ -47,10 +47,12 @@ module _ (s : List ℕ) (rec : Record) (l : loaded s ≡ Loaded.Font rec) where
   pub eleven-apart : vetted s ≡ Vetted.Refused (refusal 11 0)
       → ((saidSized (dimensions s rec) .number ≡ 11) × (BoundsGood (boundsOf rec) → ⊥)) ⊎ ((saidSized (dimensions s rec) .number ≡ 0) × CodeFails s rec 11 0)
   eleven-apart e =
+      ⊎-elim (λ (n, first). absurd (omega (arith, n)))
+      (λ (agree, why).
       ⊎-elim (λ (o, n, z). absurd (omega (arith, n)))
       (⊎-elim (λ (o, bad, n, z). inl (not-held (split (boundsHold (boundsOf rec)) (λ t. absurd (bad (bounds-good (boundsOf rec) t))) (λ t. t)), bad))
       (⊎-elim (λ (o, good, f). absurd (let n = f .number in omega (arith, n)))
-      (λ (o, good, ps, f). inr (held (good-bounds (boundsOf rec) good), f))))
+      (λ (o, good, ps, f). inr (held (good-bounds (boundsOf rec) good), f)))) why)
       (vet-refuses s rec l 11 0 .0 e)
 
   prop-number : (n : ℕ) → saidProp (propAt s rec n) .number ≡ propFault s rec n
@@ -64,6 +66,8 @@ module _ (s : List ℕ) (rec : Record) (l : loaded s ≡ Loaded.Font rec) where
   pub eighteen-apart : (n : ℕ) → vetted s ≡ Vetted.Refused (refusal 18 n)
       → ((saidProp (propAt s rec n) .number ≡ 18) × PropertyFails s rec 18 n) ⊎ ((saidProp (propAt s rec n) .number ≡ 18 → ⊥) × CodeFails s rec 18 n)
   eighteen-apart n e =
+      ⊎-elim (λ (m, first). absurd (omega (arith, m)))
+      (λ (agree, why).
       ⊎-elim (λ (o, m, z). absurd (omega (arith, m)))
       (⊎-elim (λ (o, bad, m, z). absurd (omega (arith, m)))
       (⊎-elim (λ (o, good, f). inl (prop-number n ∙ fails-property s rec fits 18 n f .fault, f))
@@ -78,5 +82,5 @@ module _ (s : List ℕ) (rec : Record) (l : loaded s ≡ Loaded.Font rec) where
             let none = readable-prop s rec n k (good-property s rec fits n (ps n k)) in
             omega (arith, told, none)),
         f,
-      ))))
+      )))) why)
       (vet-refuses s rec l 18 n .0 e)

@@ -140,7 +140,7 @@ module _ (s : List ℕ) (rec : Record) (text : List ℕ) (lay : Layout) (colour 
         answer-is =
             let (loads, sound) = passes-when s rec .0 passed in
             rw (
-              loaded-serves s rec loads,
+              loaded-serves true s rec loads,
               ok-place (lay .start) (lay .stride) (lay .scale) start-high stride-low stride-high scale-low scale-high,
               whole,
               sound .bounds,

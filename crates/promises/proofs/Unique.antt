@@ -45,6 +45,8 @@ use Rattle.tables.proofs.guard.Kinds as guard-kinds
 use Rattle.tables.proofs.guard.Reads as guard-reads
 use Rattle.load.proofs.load_pcf.Kinds as load-pcf-kinds
 use Rattle.load.proofs.load_pcf.Reads as load-pcf-reads
+use Rattle.load.proofs.load_strict.Kinds as load-strict-kinds
+use Rattle.load.proofs.load_strict.Reads as load-strict-reads
 use Rattle.load.proofs.blank.Kinds as blank-kinds
 use Rattle.load.proofs.blank.Reads as blank-reads
 use Rattle.load.proofs.no_metrics.Kinds as no-metrics-kinds
@@ -238,6 +240,9 @@ guard-unique κs a r₁ r₂ x₁ x₂ p q = p ∙ sym q
 
 pub load-pcf-unique : Fixes 1 load-pcf-kinds.ps load-pcf-kinds.r load-pcf-reads.Post
 load-pcf-unique κs a r₁ r₂ x₁ x₂ p q = p ∙ sym q
+
+pub load-strict-unique : Fixes 1 load-strict-kinds.ps load-strict-kinds.r load-strict-reads.Post
+load-strict-unique κs a r₁ r₂ x₁ x₂ p q = p ∙ sym q
 
 pub blank-unique : Fixes 0 blank-kinds.ps blank-kinds.r blank-reads.Post
 blank-unique κs a r₁ r₂ x₁ x₂ p q = p ∙ sym q

@@ -6,6 +6,8 @@ use Rattle.thalluskin.proofs.thalluskin_version.Kinds as thalluskin-version-kin
 use Rattle.thalluskin.proofs.thalluskin_version.Reads as thalluskin-version-reads
 use Rattle.thalluskin.proofs.thalluskin_load.Kinds as thalluskin-load-kinds
 use Rattle.thalluskin.proofs.thalluskin_load.Reads as thalluskin-load-reads
+use Rattle.thalluskin.proofs.thalluskin_load_strict.Kinds as thalluskin-load-strict-kinds
+use Rattle.thalluskin.proofs.thalluskin_load_strict.Reads as thalluskin-load-strict-reads
 use Rattle.thalluskin.proofs.thalluskin_vet.Kinds as thalluskin-vet-kinds
 use Rattle.thalluskin.proofs.thalluskin_vet.Reads as thalluskin-vet-reads
 use Rattle.thalluskin.proofs.thalluskin_property.Kinds as thalluskin-property-kinds
@@ -42,6 +44,9 @@ thalluskin-version-unique κs a r₁ r₂ x₁ x₂ p q = p ∙ sym q
 
 pub thalluskin-load-unique : Fixes 1 thalluskin-load-kinds.ps thalluskin-load-kinds.r thalluskin-load-reads.Post
 thalluskin-load-unique κs a r₁ r₂ x₁ x₂ p q = p ∙ sym q
+
+pub thalluskin-load-strict-unique : Fixes 1 thalluskin-load-strict-kinds.ps thalluskin-load-strict-kinds.r thalluskin-load-strict-reads.Post
+thalluskin-load-strict-unique κs a r₁ r₂ x₁ x₂ p q = p ∙ sym q
 
 pub thalluskin-vet-unique : Fixes 1 thalluskin-vet-kinds.ps thalluskin-vet-kinds.r thalluskin-vet-reads.Post
 thalluskin-vet-unique κs a r₁ r₂ x₁ x₂ p q = p ∙ sym q

@@ -20,6 +20,7 @@ use Rattle.tables.specs.declared.MetricsUnpacked.{MetricsUnpacked}
 use Rattle.tables.specs.declared.Record.{Record}
 use Rattle.tables.proofs.RecordParts.{prop-strings, name-strings, bitmap-bytes}
 use Rattle.load.proofs.Serves.{loaded-serves}
+use Rattle.load.proofs.StrictLoading.{strict-passes}
 use Rattle.lookup.specs.Lookup.{glyphOf}
 use Rattle.lookup.specs.declared.Found.{Found}
 use Rattle.names.specs.Names.{nameOf}
@@ -211,15 +212,17 @@ module _ (s : List ℕ) (rec : Record) (fits : recordFits (length s) rec ≡ tru
     by (Found.Glyph g) e = usable-code s rec code g e (good-glyph g (w (g .0) e))
     by (Found.Refused r) e = no-glyph-no-fault s rec code r e
 
--- vetting passes if and only if loading does and each condition holds, of all properties, all codes, all their rows
+-- vetting passes if and only if loading does and each condition holds, of all formats, all properties, all codes, all their rows
 pub vet-passes : (s : List ℕ) (rec : Record) → (vetted s ≡ Vetted.Passed rec) ↔ Passes s rec
 vet-passes s rec = (to, from) where
   to : vetted s ≡ Vetted.Passed rec → Passes s rec
   to e =
-      let (l, w) = passes-when s rec .0 e in
-      let fits = loaded-serves s rec l in
+      let (strictly, w) = passes-when s rec .0 e in
+      let (loads, formats) = strict-passes s rec .0 strictly in
+      let fits = loaded-serves false s rec loads in
       record {
-        loads = l;
+        loads = loads;
+        formats = formats;
         order = order-good (rec .bitmaps) (w .readable);
         bounds = bounds-good (boundsOf rec) (w .bounds);
         properties = λ i h. property-good s rec fits i (prop-readable s rec i h (w .properties i (omega arith) h));
@@ -228,9 +231,9 @@ vet-passes s rec = (to, from) where
 
   from : Passes s rec → vetted s ≡ Vetted.Passed rec
   from w =
-      let fits = loaded-serves s rec (w .loads) in
+      let fits = loaded-serves false s rec (w .loads) in
       passes-when s rec .1 (
-        w .loads,
+        strict-passes s rec .1 (w .loads, w .formats),
         record {
           readable = good-order (rec .bitmaps) (w .order);
           bounds = good-bounds (boundsOf rec) (w .bounds);
@@ -242,4 +245,4 @@ vet-passes s rec = (to, from) where
 -- "A passed font": each of its codes, of whatever size, has a good glyph or none
 pub passed-glyph : (s : List ℕ) (rec : Record) → vetted s ≡ Vetted.Passed rec → (code g : ℕ) → HasGlyph s rec code g → GlyphGood s rec g
 passed-glyph s rec e code g h =
-    glyph-good s rec (loaded-serves s rec (passes-when s rec .0 e .0)) (record { 0 = g }) (passed-usable s rec e code (record { 0 = g }) h)
+    glyph-good s rec (loaded-serves true s rec (passes-when s rec .0 e .0)) (record { 0 = g }) (passed-usable s rec e code (record { 0 = g }) h)

@@ -1,6 +1,6 @@
 -- A font that loads is refused in vetting exactly where a condition of document 01 fails, with the number of the first that does and
 -- its place.
-use mathlib.Core.Path.{_≡_, refl, sym, _∙_}
+use mathlib.Core.Path.{_≡_, refl, sym, ap, subst, _∙_}
 use mathlib.Core.Bool.{true, false}
 use mathlib.Core.List.{List, [], _∷_}
 use mathlib.Core.Logic.{_⊎_, _↔_, inl, inr, ⊎-elim}
@@ -22,7 +22,9 @@ use Rattle.tables.specs.declared.Record.{Record}
 use Rattle.tables.proofs.RecordParts.{prop-strings, name-strings}
 use Rattle.load.specs.Load.{loaded}
 use Rattle.load.specs.declared.Loaded.{Loaded}
+use Rattle.load.specs.Formats.{FormatsAgree, FirstDiffers}
 use Rattle.load.proofs.Serves.{loaded-serves}
+use Rattle.load.proofs.StrictLoading.{strict-agrees, strict-passes, strict-27, strict-cases}
 use Rattle.lookup.specs.Lookup.{glyphOf}
 use Rattle.lookup.specs.declared.Found.{Found}
 use Rattle.names.specs.Names.{nameOf}
@@ -36,15 +38,15 @@ use Rattle.metrics.specs.Measure.{glyphMetrics, metricsOf}
 use Rattle.bitmaps.specs.Picture.{noBitmap, unreadable, rowsShort}
 use Rattle.place.specs.Bounds.{heightOf, boundsHold, boundsOf}
 use Rattle.place.specs.Info.{placeable, infoOf}
-use Rattle.vet.specs.Vet.{nameFault, boxFault, propFault, codeFault, vetted}
+use Rattle.vet.specs.Vet.{nameFault, boxFault, propFault, codeFault, vetted, saidVetted}
 use Rattle.vet.specs.declared.Vetted.{Vetted}
 use Rattle.vet.proofs.CodesInRange.{no-glyph-no-fault}
 use Rattle.vet.proofs.FirstFault.{Faultless, IsFirst}
 use Rattle.vet.proofs.PassedCodes.{code-usable}
 use Rattle.vet.proofs.PassedProps.{prop-readable, readable-prop}
-use Rattle.vet.proofs.Verdict.{Fails, refused-when}
+use Rattle.vet.proofs.Verdict.{Fails, refused-when, refused-load}
 use Rattle.promises.specs.Passing.{HasGlyph, PropertyGood, PropertiesGood, NameEnds, GlyphGood}
-use Rattle.promises.specs.Refusing.{Condition, FirstOf, glyphConditions, PropertyFails, CodeFails, Refuses}
+use Rattle.promises.specs.Refusing.{Condition, FirstOf, glyphConditions, PropertyFails, CodeFails, RecordRefuses, Refuses}
 use Rattle.promises.proofs.Vetting.{
   order-good,
   good-order,
@@ -236,7 +238,7 @@ module _ (s : List ℕ) (rec : Record) (fits : recordFits (length s) rec ≡ tru
       }
 
   -- the tests that pass and fail, in plain logic and back
-  refuses : (n place : ℕ) → Fails s rec n place → Refuses s rec n place
+  refuses : (n place : ℕ) → Fails s rec n place → RecordRefuses s rec n place
   refuses n place =
       ⊎-elim (λ (r, e, f). inl (λ w. never (sym (good-order b w) ∙ r), e, f))
       (⊎-elim (λ (r, h, e, f). inr (inl (order-good b r, λ w. never (sym h ∙ good-bounds bounds w), e, f)))
@@ -245,7 +247,7 @@ module _ (s : List ℕ) (rec : Record) (fits : recordFits (length s) rec ≡ tru
       let properties : PropertiesGood s (rec .props) (rec .props .count) = λ i l. good-property-of i l (p i (omega arith) l) in
       inr (inr (inr (order-good b r, bounds-good bounds h, properties, code-first n place w))))))
 
-  fails : (n place : ℕ) → Refuses s rec n place → Fails s rec n place
+  fails : (n place : ℕ) → RecordRefuses s rec n place → Fails s rec n place
   fails n place =
       ⊎-elim (λ (r, e, f). inl (split (unreadable b) (λ t. t) (λ t. absurd (r (order-good b t))), e, f))
       (⊎-elim
@@ -257,10 +259,28 @@ module _ (s : List ℕ) (rec : Record) (fits : recordFits (length s) rec ≡ tru
       let properties : Faultless (propFault s rec) 0 (rec .props .count) = λ i l k. readable-prop s rec i k (good-property s rec fits i (p i k)) in
       inr (inr (inr (good-order b r, good-bounds bounds h, properties, first-code n place w))))))
 
--- a font that loads is refused if and only if a condition fails, and then for the first that does
+-- a font that loads is refused if and only if a condition fails, and then for the first that does: 27 before those on the record
 pub vet-refuses : (s : List ℕ) (rec : Record) → loaded s ≡ Loaded.Font rec
     → (n place : ℕ) → (vetted s ≡ Vetted.Refused (refusal n place)) ↔ Refuses s rec n place
-vet-refuses s rec l n place =
-    let fits = loaded-serves s rec l in
-    let (to, from) = refused-when s rec l n place in
-    (λ e. refuses s rec fits n place (to e), λ w. from (fails s rec fits n place w))
+vet-refuses s rec l n place = (to, from) where
+  -- where no format differs, by the conditions on the record
+  by-record : FormatsAgree s → (vetted s ≡ Vetted.Refused (refusal n place)) ↔ RecordRefuses s rec n place
+  by-record agree =
+      let fits = loaded-serves false s rec l in
+      let (to, from) = refused-when s rec (strict-agrees s agree ∙ l) n place in
+      (λ e. refuses s rec fits n place (to e), λ w. from (fails s rec fits n place w))
+
+  to : vetted s ≡ Vetted.Refused (refusal n place) → Refuses s rec n place
+  to e =
+      ⊎-elim (λ same. let agree = strict-passes s rec .0 (same ∙ l) .1 in inr (agree, by-record agree .0 e))
+      (λ (k, is).
+      let told = sym e ∙ refused-load s (refusal 27 k) is in
+      let number : n ≡ 27 = ap (λ (x : Vetted). saidVetted x .number) told in
+      let at : k ≡ place = ap (λ (x : Vetted). saidVetted x .place) (sym told) in
+      inl (number, subst (FirstDiffers s) at (strict-27 s k .0 is .0)))
+      (strict-cases s)
+
+  from : Refuses s rec n place → vetted s ≡ Vetted.Refused (refusal n place)
+  from =
+      ⊎-elim (λ (number, first). rw number (refused-load s (refusal 27 place) (strict-27 s place .1 (first, rw l tt))))
+      (λ (agree, w). by-record agree .1 w)

@@ -1,7 +1,8 @@
 -- When a font passes vetting, in plain logic. From document 01, "Vetting": "Passes when loading does and, in this order: no 13; the
 -- bounds hold (11); every property's strings end (18); then for each code 0 to 65,535 that has a glyph: 10, 11, 12, 14 over all rows,
 -- 17, 18 don't occur." From document 02: "13 remains for unit code 3 and for a unit wider than the row pad; 14 concerns the byte that
--- really holds the column".
+-- really holds the column"; "Strict loading refuses a known table whose own format word differs from its directory entry's [...] vetting uses
+-- the strict one, and demand 3 gains this condition".
 use Prim.Native.Nat.{ℕ, _+_, _*_, _≤_, _<_}
 use mathlib.Core.Path.{_≡_}
 use mathlib.Core.List.{List}
@@ -14,6 +15,7 @@ use Rattle.tables.specs.declared.MetricsUnpacked.{MetricsUnpacked}
 use Rattle.tables.specs.declared.PropertiesData.{PropertiesData}
 use Rattle.tables.specs.declared.Record.{Record}
 use Rattle.load.specs.Load.{loaded}
+use Rattle.load.specs.Formats.{FormatsAgree}
 use Rattle.load.specs.declared.Loaded.{Loaded}
 use Rattle.lookup.specs.Lookup.{glyphOf}
 use Rattle.lookup.specs.declared.Found.{Found}
@@ -84,6 +86,7 @@ pub record OrderGood (b : BitmapData) : Type 0 where
 -- a font that passes, and its record: "such bytes with the record that loading gave for them"
 pub record Passes (s : List ℕ) (rec : Record) : Type 0 where
   pub loads : loaded s ≡ Loaded.Font rec
+  pub formats : FormatsAgree s
   pub order : OrderGood (rec .bitmaps)
   pub bounds : BoundsGood (boundsOf rec)
   pub properties : PropertiesGood s (rec .props) (rec .props .count)

@@ -1,10 +1,12 @@
 -- Why vetting refuses a font that loads, in plain logic. From document 01, "Vetting": "Otherwise the first failure and its place";
--- "in vetting, for a property the property's number, for a code the code [...] otherwise 0".
+-- "in vetting, for a property the property's number, for a code the code [...] otherwise 0". From document 02: "vetting uses the strict" load,
+-- which refuses 27, "placed like 6", by the entry's number.
 use Prim.Native.Nat.{ℕ, _<_}
 use mathlib.Core.Path.{_≡_}
 use mathlib.Core.List.{List, [], _∷_}
 use mathlib.Core.Logic.{_⊎_}
 use Rattle.tables.specs.declared.Record.{Record}
+use Rattle.load.specs.Formats.{FormatsAgree, FirstDiffers}
 use Rattle.metrics.specs.Measure.{glyphMetrics}
 use Rattle.place.specs.Bounds.{boundsOf}
 use Rattle.promises.specs.Passing.{HasGlyph, OrderGood, BoundsGood, MetricsGood, PropertyGood, PropertiesGood, RowsGood, NameEnds, CodesGood}
@@ -49,9 +51,13 @@ pub record CodeFails (s : List ℕ) (rec : Record) (n place : ℕ) : Type 0 wher
   pub before : CodesGood s rec place
 
 -- "in this order: no 13; the bounds hold (11); every property's strings end (18); then for each code"
-abbrev pub Refuses : List ℕ → Record → ℕ → ℕ → Type 0
-Refuses s rec n place =
+abbrev pub RecordRefuses : List ℕ → Record → ℕ → ℕ → Type 0
+RecordRefuses s rec n place =
     ((OrderGood (rec .bitmaps) → ⊥) × (n ≡ 13) × (place ≡ 0))
     ⊎ (OrderGood (rec .bitmaps) × (BoundsGood (boundsOf rec) → ⊥) × (n ≡ 11) × (place ≡ 0))
     ⊎ (OrderGood (rec .bitmaps) × BoundsGood (boundsOf rec) × PropertyFails s rec n place)
     ⊎ (OrderGood (rec .bitmaps) × BoundsGood (boundsOf rec) × PropertiesGood s (rec .props) (rec .props .count) × CodeFails s rec n place)
+
+-- before all of these, the first entry whose format differs: 27
+abbrev pub Refuses : List ℕ → Record → ℕ → ℕ → Type 0
+Refuses s rec n place = ((n ≡ 27) × FirstDiffers s place) ⊎ (FormatsAgree s × RecordRefuses s rec n place)

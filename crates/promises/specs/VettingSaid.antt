@@ -8,7 +8,7 @@ use Rattle.reads.specs.Said.{Said, refusal, says, refuses}
 use Rattle.reads.specs.declared.Refusal.{Refusal}
 use Rattle.tables.specs.Values.{recordValues}
 use Rattle.tables.specs.declared.Record.{Record}
-use Rattle.load.specs.Load.{loaded}
+use Rattle.load.specs.Load.{loaded, loadedStrictly}
 use Rattle.load.specs.declared.Loaded.{Loaded}
 use Rattle.vet.specs.Vet.{vetted, saidVetted}
 use Rattle.promises.specs.Passing.{Passes}
@@ -26,5 +26,5 @@ module _ (s : List ℕ) where
     pub passes-says : (rec : Record) → Passes s rec → vettingSaid ≡ says (recordValues rec)
     -- a font that loads is refused exactly for the first condition that fails, and with its place
     pub refused-exactly : (rec : Record) → loaded s ≡ Loaded.Font rec → (n place : ℕ) → (vettingSaid ≡ refuses (refusal n place)) ↔ Refuses s rec n place
-    -- a font that does not load is refused as loading refuses it
-    pub refused-loading : (r : Refusal) → loaded s ≡ Loaded.Refused r → vettingSaid ≡ refuses r
+    -- a font that does not load strictly is refused as strict loading refuses it
+    pub refused-loading : (r : Refusal) → loadedStrictly s ≡ Loaded.Refused r → vettingSaid ≡ refuses r

@@ -57,12 +57,14 @@ pub(crate) const NAME_BYTES: u8 = 16;
 
 pub(crate) const CODES: u8 = 17;
 
-pub(crate) const CHECK: u8 = 18;
+pub(crate) const STRICT: u8 = 18;
 
-// 21, filling a buffer with the bytes of lines, is what is left of the kinds that put bytes.
-pub(crate) const FRAME: u8 = 19;
+pub(crate) const CHECK: u8 = 19;
 
-pub(crate) const REFUSED: u8 = 20;
+// 22, filling a buffer with the bytes of lines, is what is left of the kinds that put bytes.
+pub(crate) const FRAME: u8 = 20;
+
+pub(crate) const REFUSED: u8 = 21;
 
 pub(crate) fn kind_at(c: &[u8]) -> u8 {
     byte_at(c, 0, 0)

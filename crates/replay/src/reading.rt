@@ -7,6 +7,7 @@ use crate::calls::METRICS;
 use crate::calls::NAME;
 use crate::calls::NAME_BYTES;
 use crate::calls::PROP;
+use crate::calls::STRICT;
 use crate::calls::code_at;
 use crate::calls::glyph_at;
 use crate::calls::kind_at;
@@ -18,6 +19,8 @@ use console::number;
 use console::refusal;
 use console::say;
 use console::say_with;
+use load::Loaded;
+use load::load_strict;
 use lookup::Found;
 use metrics::Accelerated;
 use metrics::Measured;
@@ -111,6 +114,15 @@ fn codes(font: &[u8], rec: Record) {
     all_codes(font, rec);
 }
 
+// Strict loading takes no record: it is asked of a font that does not load too.
+pub(crate) fn strict(font: &[u8]) {
+    let loaded = load_strict(font);
+    match loaded {
+        Loaded::Font(rec) => record_words(rec),
+        Loaded::Refused(r) => refusal(r),
+    }
+}
+
 pub(crate) fn reading(font: &[u8], rec: Record, c: &[u8]) {
     let kind = kind_at(c);
     match kind {
@@ -121,6 +133,7 @@ pub(crate) fn reading(font: &[u8], rec: Record, c: &[u8]) {
         DIMENSIONS => sized(place::dimensions(font, rec)),
         ACCELERATORS => accelerated(metrics::get_accelerators(font, rec)),
         CODES => codes(font, rec),
+        STRICT => strict(font),
         NAME_BYTES => quoted(names::name_bytes(font, rec, glyph_at(c))),
         _ => record_words(rec),
     }

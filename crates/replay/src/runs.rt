@@ -5,11 +5,11 @@ use crate::answers::stepped;
 use crate::calls::CALL;
 use crate::calls::CHANGE;
 use crate::calls::CHECK;
-use crate::calls::CODES;
 use crate::calls::FRAME;
 use crate::calls::LOAD;
 use crate::calls::PREP;
 use crate::calls::STEP;
+use crate::calls::STRICT;
 use crate::calls::code_at;
 use crate::calls::kind_at;
 use crate::calls::size_at;
@@ -18,6 +18,7 @@ use crate::changes::changed;
 use crate::drawing::drawing;
 use crate::putting::putting;
 use crate::reading::reading;
+use crate::reading::strict;
 use console::number;
 use console::refusal_line;
 use console::say;
@@ -34,7 +35,7 @@ fn name(kind: u8) {
     let names =
         b"change       draw_bitmap  draw_glyph   draw_char    unpack_glyph prep_char    show_glyph   \
         draw_string  step_at      load_pcf     prop_at      get_glyph    get_name     get_metrics  dimensions   \
-        accelerators name_bytes   all_codes    check        put_frame    put_refused  fill_bytes   ";
+        accelerators name_bytes   all_codes    load_strict  check        put_frame    put_refused  fill_bytes   ";
     say(part_of(names, Span { start, len: 13 }));
 }
 
@@ -45,7 +46,7 @@ fn one_call(font: &[u8], rec: Record, c: &[u8], text: &[u8]) {
     match kind {
         PREP => prepared(place::prep_char(font, rec, code_at(c))),
         STEP => stepped(utf8::step_at(text, size_at(c, 40))),
-        LOAD..=CODES => reading(font, rec, c),
+        LOAD..=STRICT => reading(font, rec, c),
         CHECK => checked(utf8::check(text)),
         FRAME..=255 => putting(font, rec, c, text),
         _ => drawing(font, rec, c, text),
@@ -75,9 +76,15 @@ fn font_line(size: usize) {
     say(b" bytes\n");
 }
 
-fn not_loaded(r: Refusal) {
+// Of a font that does not load no call is made but strict loading, where that is the first.
+fn not_loaded(font: &[u8], r: Refusal, calls: &[u8], count: u32) {
     name(LOAD);
     refusal_line(r);
+    if count > 0 && kind_at(calls) == STRICT {
+        name(STRICT);
+        strict(font);
+        say(b"\n");
+    }
 }
 
 // `lent` is the font's bytes and the texts after them; the calls stand at the start of `calls`.
@@ -86,6 +93,6 @@ pub(crate) fn font_calls(font: &[u8], lent: &[u8], calls: &[u8], count: u32) {
     let loaded = load_pcf(font);
     match loaded {
         Loaded::Font(rec) => all_calls(font, rec, lent, calls, count),
-        Loaded::Refused(r) => not_loaded(r),
+        Loaded::Refused(r) => not_loaded(font, r, calls, count),
     }
 }

@@ -24,6 +24,7 @@ pub use placing::thalluskin_prep_char;
 pub use reading::thalluskin_accel;
 pub use reading::thalluskin_glyph;
 pub use reading::thalluskin_load;
+pub use reading::thalluskin_load_strict;
 pub use reading::thalluskin_metrics;
 pub use reading::thalluskin_name;
 pub use reading::thalluskin_property;

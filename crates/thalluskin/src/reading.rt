@@ -6,9 +6,12 @@ use crate::MetricsAnswer;
 use crate::NameAnswer;
 use crate::PropertyAnswer;
 use crate::modes::is_known;
+use font::Reading;
 use font::record_of;
 use load::Loaded;
 use load::blank;
+use load::load_pcf;
+use load::load_strict;
 use load::no_metrics;
 use lookup::Found;
 use lookup::glyph_of;
@@ -33,6 +36,7 @@ use tables::record_fits;
 ghost use mathlib.Core.Path.{_≡_};
 ghost use mathlib.Core.Bool.{true, false, cond};
 ghost use Rattle.font.specs.Shown.{recordOf};
+ghost use Rattle.font.specs.declared.Reading.{Reading};
 ghost use Rattle.lookup.specs.Lookup.{glyphOf};
 ghost use Rattle.metrics.specs.Measure.{getMetrics, getAccelerators};
 ghost use Rattle.names.specs.Names.{getName};
@@ -40,6 +44,7 @@ ghost use Rattle.props.specs.Props.{propAt};
 ghost use Rattle.reads.specs.Said.{refusal};
 ghost use Rattle.tables.specs.Fits.{guarded};
 ghost use Rattle.lookup.specs.declared.Found.{Found};
+ghost use Rattle.load.specs.Load.{loaded, loadedStrictly};
 ghost use Rattle.load.specs.declared.Loaded.{Loaded};
 ghost use Rattle.thalluskin.specs.Modes.{isKnown};
 ghost use Rattle.thalluskin.specs.Reading.{fontAnswer, noSpan, propAnswer, propertyAnswer, glyphAnswer, nameAnswer, metricsAnswer, accelAnswer};
@@ -66,20 +71,30 @@ fn font_answer(loaded: Loaded) -> FontAnswer
 // with the entry's number from 0 as the place, 5, 6 (in a code table 6 for its header, 7, 6 for its entries); 8.
 #[no_mangle]
 pub extern "C" fn thalluskin_load(bytes: &[u8]) -> FontAnswer
-    ensures { λ r. ⌜ r ≡ fontAnswer (recordOf (now (bytes .entry)) false) ⌝ }
+    ensures { λ r. ⌜ r ≡ fontAnswer (loaded (now (bytes .entry))) ⌝ }
 {
-    font_answer(record_of(bytes, false))
+    font_answer(load_pcf(bytes))
+}
+
+// The record of a font file in which no known table's own format word differs from its directory entry's, as
+// `load::load_strict` answers it. Refused as `thalluskin_load`; and within an entry 27 after 5 and after 6 for the four
+// bytes of that word, before every other test, with the entry's number as the place.
+#[no_mangle]
+pub extern "C" fn thalluskin_load_strict(bytes: &[u8]) -> FontAnswer
+    ensures { λ r. ⌜ r ≡ fontAnswer (loadedStrictly (now (bytes .entry))) ⌝ }
+{
+    font_answer(load_strict(bytes))
 }
 
 // The record of a font file that passes vetting, as `vet::vet` answers it. Refused 15 for an unknown mode; as
-// `thalluskin_load`; then 13; 11 of the bounds; 18 with the property's number as the place; code by code, with the code
+// `thalluskin_load_strict`; then 13; 11 of the bounds; 18 with the property's number as the place; code by code, with the code
 // as the place, 10, 11, 12, 14, 17, 18.
 #[no_mangle]
 pub extern "C" fn thalluskin_vet(bytes: &[u8], mode: u32) -> FontAnswer
-    ensures { λ r. ⌜ r ≡ fontAnswer (cond (isKnown mode) (recordOf (now (bytes .entry)) true) (Loaded.Refused (refusal 15 0))) ⌝ }
+    ensures { λ r. ⌜ r ≡ fontAnswer (cond (isKnown mode) (recordOf (now (bytes .entry)) Reading.Vetted) (Loaded.Refused (refusal 15 0))) ⌝ }
 {
     if is_known(mode) {
-        return font_answer(record_of(bytes, true));
+        return font_answer(record_of(bytes, Reading::Vetted));
     }
     font_answer(Loaded::Refused(Refusal {
         number: 15,

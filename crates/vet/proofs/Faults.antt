@@ -7,7 +7,7 @@ use Rattle.reads.specs.Said.{refusal}
 use Rattle.reads.specs.declared.GlyphIndex.{GlyphIndex}
 use Rattle.reads.specs.declared.Refusal.{Refusal}
 use Rattle.tables.specs.declared.Record.{Record}
-use Rattle.load.specs.Load.{loaded}
+use Rattle.load.specs.Load.{loadedStrictly}
 use Rattle.load.specs.declared.Loaded.{Loaded}
 use Rattle.lookup.specs.Lookup.{glyphOf}
 use Rattle.lookup.specs.declared.Found.{Found}
@@ -101,7 +101,7 @@ module _ (s : List ℕ) (rec : Record) (odd : Bool) (odd-is : odd ≡ unreadable
         unfolding vetRecord
         record-passes e = rw (← odd-is, even, ← hold-is, held, ← props-are, clear, ← codes-are, e)
 
-module _ (s : List ℕ) (font : Loaded) (font-is : font ≡ loaded s) where
+module _ (s : List ℕ) (font : Loaded) (font-is : font ≡ loadedStrictly s) where
   pub font-vetted : (rec : Record) (r : Vetted) → font ≡ Loaded.Font rec → r ≡ vetRecord s rec → r ≡ vetted s
   unfolding vetted
   font-vetted rec r e is = rw (← font-is, e) is

@@ -1,4 +1,4 @@
--- The numbers that vetting refuses with: those of loading, 13, 11, 18 of a property, and those of a code's glyph.
+-- The numbers that vetting refuses with: those of strict loading, 13, 11, 18 of a property, and those of a code's glyph.
 use Prim.Native.Nat.{ℕ}
 use mathlib.Core.Path.{_≡_, refl, ap}
 use mathlib.Core.Bool.{true}
@@ -13,9 +13,9 @@ use Rattle.reads.proofs.Tests.{split, either}
 use Rattle.tables.specs.Fits.{recordFits}
 use Rattle.tables.specs.declared.Record.{Record}
 use Rattle.tables.proofs.RecordParts.{prop-strings, name-strings}
-use Rattle.load.specs.Load.{loaded, ofLoading, saidLoaded}
+use Rattle.load.specs.Load.{loadedStrictly, ofStrictLoading, saidLoaded}
 use Rattle.load.specs.declared.Loaded.{Loaded}
-use Rattle.load.proofs.Refusals.{load-pcf-refusals}
+use Rattle.load.proofs.Refusals.{load-strict-refusals}
 use Rattle.load.proofs.Serves.{loaded-serves}
 use Rattle.lookup.specs.Lookup.{glyphOf}
 use Rattle.lookup.specs.declared.Found.{Found}
@@ -91,12 +91,12 @@ fails-numbered s rec fits n place =
 
 pub vet-refusals : (s : List ℕ) → NumberedBy ofVetting (saidVetted (vetted s))
 unfolding vetted
-vet-refusals s = by (loaded s) refl (load-pcf-refusals s) where
-  by-record : (rec : Record) → loaded s ≡ Loaded.Font rec → (x : Vetted) → vetted s ≡ x → NumberedBy ofVetting (saidVetted x)
+vet-refusals s = by (loadedStrictly s) refl (load-strict-refusals s) where
+  by-record : (rec : Record) → loadedStrictly s ≡ Loaded.Font rec → (x : Vetted) → vetted s ≡ x → NumberedBy ofVetting (saidVetted x)
   by-record rec l (Vetted.Passed p) e = has-values
   by-record rec l (Vetted.Refused r) e =
-      has-number (fails-numbered s rec (loaded-serves s rec l) (r .number) (r .place) (refused-when s rec l (r .number) (r .place) .0 e))
+      has-number (fails-numbered s rec (loaded-serves true s rec l) (r .number) (r .place) (refused-when s rec l (r .number) (r .place) .0 e))
 
-  by : (x : Loaded) → loaded s ≡ x → NumberedBy ofLoading (saidLoaded x) → NumberedBy ofVetting (saidVetted (vetLoaded s x))
+  by : (x : Loaded) → loadedStrictly s ≡ x → NumberedBy ofStrictLoading (saidLoaded x) → NumberedBy ofVetting (saidVetted (vetLoaded s x))
   by (Loaded.Font rec) l h = by-record rec l (vetRecord s rec) (ap (vetLoaded s) l)
   by (Loaded.Refused r) l h = wider refl h

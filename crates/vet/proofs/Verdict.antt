@@ -10,7 +10,7 @@ use Rattle.reads.specs.Said.{refusal}
 use Rattle.reads.specs.declared.Refusal.{Refusal}
 use Rattle.reads.proofs.Tests.{split}
 use Rattle.tables.specs.declared.Record.{Record}
-use Rattle.load.specs.Load.{loaded}
+use Rattle.load.specs.Load.{loadedStrictly}
 use Rattle.load.specs.declared.Loaded.{Loaded}
 use Rattle.bitmaps.specs.Picture.{unreadable}
 use Rattle.place.specs.Bounds.{boundsHold, boundsOf}
@@ -84,18 +84,18 @@ module _ (s : List ℕ) (rec : Record) where
       rw (r, b, at) refl)
       (λ (r, b, p, w). rw (r, b, props-clear p, first-at (codeFault s rec) 65536 0 n place w) refl)))
 
--- vetting passes exactly when loading does and every test passes
-pub passes-when : (s : List ℕ) (rec : Record) → (vetted s ≡ Vetted.Passed rec) ↔ ((loaded s ≡ Loaded.Font rec) × Sound s rec)
+-- vetting passes exactly when strict loading does and every test passes
+pub passes-when : (s : List ℕ) (rec : Record) → (vetted s ≡ Vetted.Passed rec) ↔ ((loadedStrictly s ≡ Loaded.Font rec) × Sound s rec)
 unfolding vetted
-passes-when s rec = (λ e. by (loaded s) refl e, λ (l, w). rw l (sound-passes s rec w)) where
-  by : (x : Loaded) → loaded s ≡ x → vetLoaded s x ≡ Vetted.Passed rec → (loaded s ≡ Loaded.Font rec) × Sound s rec
+passes-when s rec = (λ e. by (loadedStrictly s) refl e, λ (l, w). rw l (sound-passes s rec w)) where
+  by : (x : Loaded) → loadedStrictly s ≡ x → vetLoaded s x ≡ Vetted.Passed rec → (loadedStrictly s ≡ Loaded.Font rec) × Sound s rec
   by (Loaded.Font r) l e =
       let (same, w) = subst (Holds s r) e (verdict s r) in
-      subst (λ (q : Record). (loaded s ≡ Loaded.Font q) × Sound s q) same (l, w)
+      subst (λ (q : Record). (loadedStrictly s ≡ Loaded.Font q) × Sound s q) same (l, w)
   by (Loaded.Refused r) l e = let z : _≡_ {A = ℕ} 0 1 = cc in absurd (omega arith)
 
--- a loaded font is refused exactly for the first test that fails
-pub refused-when : (s : List ℕ) (rec : Record) → loaded s ≡ Loaded.Font rec
+-- a font that strict loading gave is refused exactly for the first test that fails
+pub refused-when : (s : List ℕ) (rec : Record) → loadedStrictly s ≡ Loaded.Font rec
     → (n place : ℕ) → (vetted s ≡ Vetted.Refused (refusal n place)) ↔ Fails s rec n place
 unfolding vetted
 refused-when s rec l n place = (
@@ -105,7 +105,7 @@ refused-when s rec l n place = (
   λ w. rw l (fails-refused s rec n place w),
 )
 
--- a font that does not load is refused as loading refuses it
-pub refused-load : (s : List ℕ) (r : Refusal) → loaded s ≡ Loaded.Refused r → vetted s ≡ Vetted.Refused r
+-- a font that does not load strictly is refused as strict loading refuses it
+pub refused-load : (s : List ℕ) (r : Refusal) → loadedStrictly s ≡ Loaded.Refused r → vetted s ≡ Vetted.Refused r
 unfolding vetted
 refused-load s r e = rw e refl

@@ -1,13 +1,13 @@
 -- Vetting. From document 01: "Passes when loading does and, in this order: no 13; the bounds hold (11); every property's strings end
 -- (18); then for each code 0 to 65,535 that has a glyph: 10, 11, 12, 14 over all rows, 17, 18 don't occur. Otherwise the first failure
--- and its place": "in vetting, for a property the property's number, for a code the code".
+-- and its place": "in vetting, for a property the property's number, for a code the code". From document 02: "vetting uses the strict" load.
 use Prim.Native.Nat.{ℕ}
 use mathlib.Core.Bool.{cond}
 use mathlib.Core.List.{List, [], _∷_, _++_}
 use Rattle.reads.specs.Said.{Said, refusal, says, refuses}
 use Rattle.tables.specs.Values.{recordValues}
 use Rattle.tables.specs.declared.Record.{Record}
-use Rattle.load.specs.Load.{loaded, ofLoading}
+use Rattle.load.specs.Load.{loadedStrictly, ofStrictLoading}
 use Rattle.load.specs.declared.Loaded.{Loaded}
 use Rattle.lookup.specs.Lookup.{glyphOf}
 use Rattle.lookup.specs.declared.Found.{Found}
@@ -81,15 +81,15 @@ vetLoaded s (Loaded.Refused r) = Vetted.Refused r
 
 -- `vet`: "A passed font is such bytes with the record that loading gave for them"
 unfoldable pub vetted : List ℕ → Vetted
-vetted s = vetLoaded s (loaded s)
+vetted s = vetLoaded s (loadedStrictly s)
 
 -- the numbers of a code's glyph: "10, 11, 12, 14 over all rows, 17, 18"
 abbrev pub ofGlyphs : List ℕ
 ofGlyphs = 10 ∷ 11 ∷ 12 ∷ 14 ∷ 17 ∷ 18 ∷ []
 
--- the numbers of a refusal: those of loading, "13; the bounds hold (11); every property's strings end (18)", and those
+-- the numbers of a refusal: those of strict loading, "13; the bounds hold (11); every property's strings end (18)", and those
 abbrev pub ofVetting : List ℕ
-ofVetting = ofLoading ++ (13 ∷ 11 ∷ 18 ∷ ofGlyphs)
+ofVetting = ofStrictLoading ++ (13 ∷ 11 ∷ 18 ∷ ofGlyphs)
 
 abbrev pub saidVetted : Vetted → Said
 saidVetted (Vetted.Passed r) = says (recordValues r)

@@ -3,7 +3,7 @@ use bitmaps::no_bitmap;
 use bitmaps::rows_short;
 use bitmaps::unreadable;
 use load::Loaded;
-use load::load_pcf;
+use load::load_strict;
 use lookup::Found;
 use lookup::code_range;
 use lookup::glyph_of;
@@ -142,15 +142,15 @@ fn vet_record(s: &[u8], rec: Record) -> Vetted
 }
 
 // The record of a font that passes: one in which no property is refused, and of no code the glyph, its
-// place, its rows or its name. Refused with the first trouble there is: 1 to 8 as `load_pcf` refuses,
-// with its place; 13 for a scan unit code other than 0, 1, 2, or a scan unit wider than the row pad, and
+// place, its rows or its name. Refused with the first trouble there is: 1 to 8 and 27 as `load_strict`
+// refuses, with its place; 13 for a scan unit code other than 0, 1, 2, or a scan unit wider than the row pad, and
 // 11 for bounds out of range, both with place 0; 18 for a property whose strings do not end, with its
 // number; then code by code, from 0 to 65,535, with the code as the place and only where it has a glyph:
 // 10 and 11 for its metrics, 12 and 14 for its bitmap, 17 and 18 for its name.
 pub fn vet(bytes: &[u8]) -> Vetted
     ensures { λ r. ⌜ r ≡ vetted (now (bytes .entry)) ⌝ }
 {
-    match load_pcf(bytes) {
+    match load_strict(bytes) {
         Loaded::Font(rec) => vet_record(bytes, rec),
         Loaded::Refused(r) => Vetted::Refused(r),
     }

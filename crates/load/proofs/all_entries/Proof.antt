@@ -5,10 +5,10 @@ use Rattle.load.proofs.all_entries.Statement.{statement}
 use Rattle.load.proofs.all_entries.Tie as tie
 
 abbrev Inv-loop : tie.InvT-loop
-Inv-loop s count g₀ k₀ g k = Walking s count k g
+Inv-loop s strict count g₀ k₀ g k = Walking strict s count k g
 
 abbrev μ-loop : tie.MeasureT-loop
-μ-loop s count g₀ k₀ g k = count - k
+μ-loop s strict count g₀ k₀ g k = count - k
 
 pub all-entries-spec : {M : Type 1} → statement M
 all-entries-spec =

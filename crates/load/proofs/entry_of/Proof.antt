@@ -10,6 +10,6 @@ entry-of-spec =
     (λ c. search offset-past)  -- returns
     (λ c. search needs)  -- add-lesser-of
     (λ c κs. search needs)  -- lesser-of-requires
-    (λ c κs. search needs)  -- table-at-requires
+    (λ c κs. search needs)  -- table-in-requires
     (λ c κs. search needs)  -- add-requires
     (λ c. search table-added))  -- returns-2

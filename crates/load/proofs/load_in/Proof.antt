@@ -1,10 +1,10 @@
 use borrow.Author.Needs.{needs}
 use Rattle.load.proofs.Loading.{too-short, no-font, too-many, directory-past, entries-read}
-use Rattle.load.proofs.load_pcf.Statement.{statement}
-use Rattle.load.proofs.load_pcf.Tie as tie
+use Rattle.load.proofs.load_in.Statement.{statement}
+use Rattle.load.proofs.load_in.Tie as tie
 
-pub load-pcf-spec : {M : Type 1} → statement M
-load-pcf-spec =
+pub load-in-spec : {M : Type 1} → statement M
+load-in-spec =
     tie.close
     (tie.spec
     (λ c. search too-short)  -- returns
