@@ -9,9 +9,9 @@
  * it. One header serves every processor that has its bytes in little-endian order and puts a uint64_t at a multiple of
  * 8, those of 32 bits too, where each font, text and buffer is under 2 GiB.
  *
- * A font is the bytes of its file, which stay the caller's, and the record that thk_load or thk_vet gives for them;
- * each call takes both. Every call has an answer for every font, record, text and number, a record that was made up
- * among them. What the caller has to see to, because no callee can:
+ * A font is the bytes of its file, which stay the caller's, and the record that thk_load, thk_load_strict or thk_vet
+ * gives for them; each call takes both. Every call has an answer for every font, record, text and number, a record that
+ * was made up among them. What the caller has to see to, because no callee can:
  *
  *   - a pointer and its length are that many bytes or pixels that may be read, and for a buffer also written; where
  *     the length is 0 nothing is read there, and the pointer may be NULL; a pointer to a record, a page or cells is
@@ -23,7 +23,7 @@
  *   - the stack has room. On x86-64 a call takes at most, in bytes, with its return address and what it stores below
  *     the stack's pointer, as Linux programs may, and without memcpy and memset:
  *
- *         thk_vet 3,700; thk_load 3,300
+ *         thk_vet 3,700; thk_load 3,300; thk_load_strict 3,300
  *         thk_draw_string 1,300; thk_text_check 1,300
  *         thk_draw_char 900; thk_draw_bitmap 900; thk_draw_glyph 800; thk_unpack_glyph 400
  *         thk_prep_char 700; thk_metrics 300; thk_property 200; each of the others 100
@@ -35,11 +35,12 @@
  * its caller's, so that no exception passes through it. A debugger that stops inside it may not see who called.
  *
  * Every answer but the version begins with `refusal`, 0 or the number of the reason why there is no result, and
- * `place`, which says where: for THK_BAD_OFFSET, THK_BAD_TABLE and THK_CODE_BOUNDS in loading the directory entry from
- * 0; in vetting the property or the code; in a text the byte where the refusing character starts; for THK_BAD_TEXT the
- * first byte at which no character starts, or 0 where the text is too long; otherwise 0. Where `refusal` is not 0 every
- * other value of the answer is 0 and buffers are as they were; where it is 0, so is `place`. thk_refusal_words says a
- * number in words. Places and lengths have 64 bits on every processor, so that printf takes them by PRIu64.
+ * `place`, which says where: for THK_BAD_OFFSET, THK_BAD_TABLE, THK_CODE_BOUNDS and THK_TWO_FORMATS in loading, and so
+ * in vetting too, the directory entry from 0; else in vetting the property or the code; in a text the byte where the
+ * refusing character starts; for THK_BAD_TEXT the first byte at which no character starts, or 0 where the text is too
+ * long; otherwise 0. Where `refusal` is not 0 every other value of the answer is 0 and buffers are as they were; where
+ * it is 0, so is `place`. thk_refusal_words says a number in words. Places and lengths have 64 bits on every processor,
+ * so that printf takes them by PRIu64.
  *
  * The refusals are listed with each function in the order in which they are tested.
  */
@@ -81,8 +82,9 @@ enum {
     THK_BUFFER_SHORT = 16, /* a pixel to colour lies beyond the buffer */
     THK_NO_NAME = 17,      /* glyph at or above the names count, or property number too high */
     THK_BAD_STRING = 18,   /* string offset beyond the string data, or no zero byte at or after it */
-    THK_BAD_TEXT = 19      /* text too long or not UTF-8 */
-                           /* 20 is of the dump program alone */
+    THK_BAD_TEXT = 19,     /* text too long or not UTF-8 */
+                           /* 20 is of the dump program alone, and 21 to 26 are not in use */
+    THK_TWO_FORMATS = 27   /* a known table's format differs from its directory entry's */
 };
 
 /* The limits of what calls take; 15 refuses a number past them, and 19 a longer text. */
@@ -394,6 +396,7 @@ typedef struct {
 
 uint32_t thalluskin_version(void);
 THK_DECLARE(thk_font_answer, load, const uint8_t *bytes, uint64_t bytes_len);
+THK_DECLARE(thk_font_answer, load_strict, const uint8_t *bytes, uint64_t bytes_len);
 THK_DECLARE(thk_font_answer, vet, const uint8_t *bytes, uint64_t bytes_len, uint32_t mode);
 THK_DECLARE(thk_property_answer, property, const uint8_t *bytes, uint64_t bytes_len, THK_STRUCT(thk_record) rec,
             uint32_t number);
@@ -474,27 +477,40 @@ static inline const char *thk_refusal_words(uint32_t number)
         return "string offset beyond the string data, or no zero byte at or after it";
     case THK_BAD_TEXT:
         return "text too long or not UTF-8";
+    case THK_TWO_FORMATS:
+        return "a known table's format differs from its directory entry's";
     default:
         return "an unknown reason";
     }
 }
 
-/* The record of a font file. Refused 1, 2, 3, 4; entry by entry 5, 6 (in a code table 6 for its header, 7, 6 for its
- * entries); 8. */
+/* The record of a font file. A table's format stands in its directory entry and once more in its own first four bytes.
+ * Where the two differ the table's own counts, and of metrics the directory's. Refused 1, 2, 3, 4; entry by entry 5, 6
+ * (in a code table 6 for its header, 7, 6 for its entries); 8. */
 static inline thk_font_answer thk_load(const uint8_t *font, uint64_t font_len)
 {
     THK_ANSWER(thk_font_answer, load, font, font_len);
 }
 
-/* The same, of a font of which no code's glyph is ever refused for the font's sake: in such a font a text is refused
- * only for itself (19), for another argument (15), or because a pixel to colour lies beyond the buffer (16).
+/* The same record, of a font in which the two formats of each known table, one of type 1, 2, 4, 8, 32, 128 or 256, have
+ * every bit alike. Where they differ, one of them is wrong, and nothing tells which: such a font is refused. Refused 1,
+ * 2, 3, 4; entry by entry 5, 6 for the table's first four bytes, 27, 6 for the rest (in a code table 6 for its header,
+ * 7, 6 for its entries); 8. */
+static inline thk_font_answer thk_load_strict(const uint8_t *font, uint64_t font_len)
+{
+    THK_ANSWER(thk_font_answer, load_strict, font, font_len);
+}
+
+/* The record of a font that loads strictly and of which no code's glyph is ever refused for the font's sake: in such a
+ * font a text is refused only for itself (19), for another argument (15), or because a pixel to colour lies beyond the
+ * buffer (16).
  *
  * Two causes can share a number and a place. 11 at 0 is of the bounds if thk_dimensions, with the record that thk_load
  * gives, is refused 11; else of the glyph of code 0. 18 at n is of property n if thk_property is refused 18 for it;
  * else of the name of code n's glyph.
  *
- * Refused 15 for an unknown mode; as thk_load; 13; 11 of the bounds; 18 of a property; code by code 10, 11, 12, 14, 17,
- * 18. */
+ * Refused 15 for an unknown mode; as thk_load_strict; 13; 11 of the bounds; 18 of a property; code by code 10, 11, 12,
+ * 14, 17, 18. */
 static inline thk_font_answer thk_vet(const uint8_t *font, uint64_t font_len, uint32_t mode)
 {
     THK_ANSWER(thk_font_answer, vet, font, font_len, mode);

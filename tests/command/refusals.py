@@ -6,8 +6,9 @@ from command.script import expect, run, store
 from command.shows import MOST_SHOWN, drawn_by_model
 from common import fail
 from dump import make
+from exports import formats
 from exports.header import c_words
-from pcf.font_f import two_digits
+from pcf.font_f import DIGITS, two_digits
 
 
 def meaning(number):
@@ -23,7 +24,7 @@ def meaning(number):
 
 def standing(r):
     """what the place of a font's refusal is"""
-    if r.number in (5, 6, 7):
+    if r.number in (5, 6, 7, 27):
         return "directory entry %d of " % r.place
     if r.number == 18:
         return "property %d, or the name of code %04X, of " % (r.place, r.place)
@@ -77,6 +78,17 @@ def not_shown(folder):
     refused("much too long", "refused 19", "1" * 100000)
     for name, font, said in refused_fonts():
         expect(name, run("show", "--font", store(folder, name, font), "12", folder=folder), 1, b"", said)
+
+
+def two_formats(folder):
+    """F with a bit of one table's own format changed: each command names the table's directory entry, or the reason"""
+    for entry in range(len(DIGITS)):
+        name = store(folder, "two_formats_%d.pcf" % entry, formats.own(two_digits(), entry, formats.LAST_BIT))
+        said = "refused 27: %s (directory entry %d of %s)\n" % (meaning(27), entry, name)
+        expect(name + ", shown", run("show", "--font", name, "01", folder=folder), 1, b"", said)
+        expect(name + ", recorded", run("record", name, folder=folder), 1, b"", said)
+        said = "%s is refused: %s\n" % (name, meaning(27))
+        expect(name + ", dumped", run("dump", name, folder=folder), 1, b"refused 27\n", said)
 
 
 def not_asked(folder):

@@ -23,6 +23,7 @@ def main():
         dumps.unusable(folder)
         shows.shown(folder)
         refusals.not_shown(folder)
+        refusals.two_formats(folder)
         refusals.not_asked(folder)
         pictures.pictures(folder)
         refusals.no_room(folder)

@@ -27,7 +27,7 @@ WORDS = {
     "bool": "a type of C and Rust",
     "requires": "a word of Rattle",
     "refusal": "a field of each answer in C",
-    "vetting": "an argument",
+    "reading": "an argument",
     "Refused": "a case of the answers' enums",
     "..Leaves": "how definitions are called that say what is left in a buffer",
     "refusal n 0": "a term in definitions",

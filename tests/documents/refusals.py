@@ -6,7 +6,7 @@ import re
 from documents import code, pages
 
 ORDER = "Refusals, in order"
-LAST, DUMPS = 20, 20  # the greatest number, and the one that the dump program alone gives
+EVERY, DUMPS = [*range(1, 21), 27], 20  # the numbers, and the one that the dump program alone gives
 # answers the refusal's number itself, so that its type does not show that it refuses
 NUMBERS = {("dumper", "print_dump")}
 # answers no values, so that its theorem is of another form: utf8/proofs/CheckedText.antt
@@ -147,7 +147,8 @@ def theorems():
         stated = r"^ *pub (\S+)-refusals :(.*?)^ *(?:unfolding|\1-refusals)\b"
         for m in re.finditer(stated, code.read(path), re.M | re.S):
             told = re.search(r"(NumberedBy|Refusals s rec) (\w+|\((?:[^()]|\([^()]*\))*\))", m[2])
-            yield m[1].replace("-", "_"), (numbers(told[2]), told[1] != "NumberedBy")
+            if told:  # else it is on a step inside a call
+                yield m[1].replace("-", "_"), (numbers(told[2]), told[1] != "NumberedBy")
 
 
 def proved(known):
@@ -166,15 +167,14 @@ def proved(known):
 
 def told_numbers():
     """each place that tells refusals by number, with the numbers it has and those it has to have"""
-    every, library = list(range(1, LAST + 1)), [n for n in range(1, LAST + 1) if n != DUMPS]
     tables = [t for t in pages.tables(pages.CALLS) if t.head[0] == "No"]
-    yield pages.CALLS, [int(row[0]) for t in tables for _, row in t.rows], every
+    yield pages.CALLS, [int(row[0]) for t in tables for _, row in t.rows], EVERY
     rows = [row[0] for t in pages.tables(pages.PROMISES) if t.section == "Refusal numbers" for _, row in t.rows]
     parts = [part for row in rows for part in row.split("; ")]
-    yield pages.PROMISES, [int(m[1]) for m in map(re.compile(r"(\d+) [a-z]").match, parts) if m], every
+    yield pages.PROMISES, [int(m[1]) for m in map(re.compile(r"(\d+) [a-z]").match, parts) if m], EVERY
     text = code.read("include/thalluskin.h")
     header = re.findall(r"^ *THK_(\w+) = (\d+)\b", text, re.M)
-    yield "include/thalluskin.h", [int(n) for _, n in header], [0] + library
+    yield "include/thalluskin.h", [int(n) for _, n in header], [0] + [n for n in EVERY if n != DUMPS]
     words = re.findall(r'^ *case THK_(\w+):\n *return "(.*)";$', text, re.M)
     told = {row[0]: row[1] for t in tables for _, row in t.rows}
     yield "include/thalluskin.h, words", words, [(name, told.get(n, "not refused")) for name, n in header]

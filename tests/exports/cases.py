@@ -4,7 +4,7 @@ import struct
 
 import model
 from dump import make as dump
-from exports import layouts
+from exports import formats, layouts
 from fonts import make as fonts
 from pcf import tables
 from pcf.font_f import THREE, two_digits
@@ -15,9 +15,9 @@ from replay import make as replay
 
 LAST = calls.LAST
 # as tests/exports/replay.c numbers them
-KINDS = ["thk_load", "thk_vet", "thk_property", "thk_glyph", "thk_name", "thk_metrics", "thk_accel", "thk_dimensions",
-         "thk_prep_char", "thk_draw_bitmap", "thk_draw_glyph", "thk_draw_char", "thk_unpack_glyph", "thk_draw_string",
-         "thk_text_check", "thk_utf8_step"]
+KINDS = ["thk_load", "thk_load_strict", "thk_vet", "thk_property", "thk_glyph", "thk_name", "thk_metrics", "thk_accel",
+         "thk_dimensions", "thk_prep_char", "thk_draw_bitmap", "thk_draw_glyph", "thk_draw_char", "thk_unpack_glyph",
+         "thk_draw_string", "thk_text_check", "thk_utf8_step"]
 ANSWERS = {layouts.in_header(name): answer for name, (_, answer) in layouts.functions().items()}
 NUMBERS = ["code", "glyph", "width", "height", "pad_top", "pad_left", "len", "start", "wrap", "stride", "scale",
            "colour", "mode"]
@@ -54,6 +54,8 @@ def answered(c):
         raise model.Refused(15)
     if function == "thk_load":
         return {"rec": model.load(b)}, buf
+    if function == "thk_load_strict":
+        return {"rec": model.load(b, strict=True)}, buf
     if function == "thk_vet":
         return {"rec": model.vet(b)}, buf
     if function == "thk_property":
@@ -186,11 +188,17 @@ def test_fonts():
     return {**own, **fonts.files(), **dump.font_files()}
 
 
+def readings(b):
+    """a font read in each way"""
+    yield call("thk_load", b)
+    yield call("thk_load_strict", b)
+    yield call("thk_vet", b)
+
+
 def read():
     """loading, vetting and every question of reading, of the fonts of other tests"""
     for b in test_fonts().values():
-        yield call("thk_load", b)
-        yield call("thk_vet", b)
+        yield from readings(b)
         try:
             rec = model.load(b)
         except model.Refused:
@@ -239,8 +247,7 @@ def empty():
     for b, of_font in ((f, rec), (b"", rec), (b"", NO_RECORD)):
         where = {"start": 0, "stride": 3, "scale": 1, "colour": 5}
         box = {"glyph": 1, "width": 3, "height": 3}
-        yield call("thk_load", b)
-        yield call("thk_vet", b)
+        yield from readings(b)
         yield from questions(b, of_font)
         for buf in ([], [7] * 9):
             yield call("thk_draw_bitmap", b, of_font, buf=buf, **box, **where)
@@ -261,8 +268,7 @@ def orders_by_lot():
         rng, b = random.Random(seed), dump.by_lot(seed)
         if rng.randrange(2):
             b = with_bytes(b, rng.randrange(8, len(b)), rng.randbytes(1))
-        yield call("thk_load", b)
-        yield call("thk_vet", b)
+        yield from readings(b)
         try:
             rec = model.load(b)
         except model.Refused:
@@ -284,6 +290,7 @@ def modes():
     for mode in (1, 2, 256, 2 ** 31, 2 ** 32 - 1):
         yield call("thk_vet", f, mode=mode)
         yield call("thk_vet", f[:100], mode=mode)
+        yield call("thk_vet", formats.own(f, 0, 0), mode=mode)
         for of_font in (rec, unfit):
             for code in (0x30, 0x32):
                 yield call("thk_glyph", f, of_font, code=code, mode=mode)
@@ -300,6 +307,14 @@ def modes():
                     yield call("thk_text_check", f, of_font, text, len=30, wrap=LAST, **page)
 
 
+def two_formats():
+    """fonts in which the two formats of a table differ, or agree though they are odd"""
+    for b in [*formats.one_bit(), *formats.together()]:
+        yield from readings(b)
+    for b in formats.alike():
+        yield call("thk_load_strict", b)
+
+
 def all_calls():
-    for group in (read, wrong_records, empty, modes, orders_by_lot, drawn):
+    for group in (read, wrong_records, empty, modes, orders_by_lot, two_formats, drawn):
         yield from group()

@@ -77,6 +77,9 @@ static size_t called(const struct call *c, uint8_t *const lent[], uint64_t len, 
     case LOAD:
         CALL(thk_font_answer, load, thk_load(font, len), (void *, const uint8_t *, uint64_t), font, len);
         break;
+    case LOAD_STRICT:
+        CALL(thk_font_answer, load_strict, thk_load_strict(font, len), (void *, const uint8_t *, uint64_t), font, len);
+        break;
     case VET:
         CALL(thk_font_answer, vet, thk_vet(font, len, mode), (void *, const uint8_t *, uint64_t, uint32_t), font, len,
              mode);

@@ -6,8 +6,8 @@
 #include <stddef.h>
 #include <stdint.h>
 
-enum kind { LOAD, VET, PROPERTY, GLYPH, NAME, METRICS, ACCEL, DIMENSIONS, PREP_CHAR, DRAW_BITMAP, DRAW_GLYPH, DRAW_CHAR,
-            UNPACK_GLYPH, DRAW_STRING, TEXT_CHECK, UTF8_STEP, KINDS };
+enum kind { LOAD, LOAD_STRICT, VET, PROPERTY, GLYPH, NAME, METRICS, ACCEL, DIMENSIONS, PREP_CHAR, DRAW_BITMAP,
+            DRAW_GLYPH, DRAW_CHAR, UNPACK_GLYPH, DRAW_STRING, TEXT_CHECK, UTF8_STEP, KINDS };
 
 /* What a call is lent, and last what the first of two calls left of the buffer. */
 enum object { RECORD, FONT, TEXT, BUFFER, LEFT, OBJECTS };

@@ -4,7 +4,7 @@ import itertools
 import os
 
 from common import TESTS
-from exports import cases, layouts
+from exports import cases, formats, layouts
 from exports.asked import all_asked
 from exports.machine import fail, must
 from native import library
@@ -28,7 +28,16 @@ def replay(at, folder):
     for name in cases.KINDS:
         refused = ", ".join("%d: %d" % (n, seen[of, n]) for of, n in sorted(seen) if of == name and n)
         print("%s: %d answers, refused %s" % (name, seen[name, 0], refused))
+    changed = set(formats.one_bit())
+    print("exports: %d fonts with one bit of a format word changed: %d load, and %d strictly" % (
+        len(changed), taken(changed, "thk_load"), taken(changed, "thk_load_strict")))
     print("exports: %d calls, each made twice in both of the header's shapes, agree with the model" % len(made))
+
+
+def taken(fonts, function):
+    """how many of these fonts a function does not refuse"""
+    return len(fonts & {c["font"] for c, (_, want, _) in zip(all_asked().calls, all_asked().wanted)
+                        if c["function"] == function and want[REFUSAL] == 0})
 
 
 def replay_here(at, folder, archive):

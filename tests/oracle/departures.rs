@@ -53,6 +53,11 @@ impl Departure {
 
 // ---- loading
 
+/// a type of table that is read
+pub fn is_known(kind: u32) -> bool {
+    matches!(kind, 1 | 2 | 4 | 8 | 32 | 128 | 256)
+}
+
 /// All that applies to a font's loading, each with the number of its directory entry.
 pub fn of_loading(b: &[u8]) -> Vec<(Departure, usize)> {
     let mut found = Vec::new();
@@ -70,7 +75,7 @@ pub fn of_loading(b: &[u8]) -> Vec<(Departure, usize)> {
         let [kind, form, size, offset] = [0, 4, 8, 12].map(|k| u32_at(b, 8 + 16 * e + k, false));
         let Some(from) = b.get(offset as usize..) else { break };
         let table = &from[..from.len().min(size as usize)];
-        if matches!(kind, 1 | 2 | 4 | 8 | 32 | 128 | 256) && offset % 4 != 0 {
+        if is_known(kind) && offset % 4 != 0 {
             found.push((Unaligned, e));
         }
         let of_table = match kind {
@@ -104,7 +109,7 @@ pub fn may_refuse(b: &[u8], number: u32, place: usize) -> bool {
         8 => place == 0 && (0..count()).all(within) && !complete,
         _ if place >= count() || !(0..place).all(within) => false,
         5 => !within(place),
-        6 => within(place) && matches!(entry(place)[0], 1 | 2 | 4 | 8 | 32 | 128 | 256),
+        6 => within(place) && is_known(entry(place)[0]),
         7 => within(place) && entry(place)[0] == 32,
         _ => false,
     }

@@ -22,6 +22,13 @@ pub struct Table {
     pub bytes: Vec<u8>,
 }
 
+impl Table {
+    /// whose format in the directory is the one that its bytes begin with
+    pub fn as_it_says(kind: u32, bytes: Vec<u8>) -> Table {
+        Table { kind, form: u32::from_le_bytes(bytes[..4].try_into().unwrap()), bytes }
+    }
+}
+
 // ---- numbers
 
 pub fn word(n: u32) -> [u8; 4] {

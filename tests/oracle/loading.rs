@@ -6,7 +6,7 @@ use crate::reading;
 use crate::sides::{caught, Aligned, Askew, Given, Kind, Pair, Theirs};
 use crate::structs::Accelerators;
 use crate::tally::Tally;
-use crate::{calls, orders, twins};
+use crate::{calls, orders, strict, twins};
 use original::plain;
 
 /// what is done with a pair
@@ -25,6 +25,7 @@ fn both(bytes: &[u8], tally: &mut Tally, then: Then) -> Verdict {
     tally.called(Load, kind);
     let askew = Askew::new(bytes, tally.fonts);
     let our = calls::load(askew.bytes());
+    strict::compare(askew.bytes(), &our, tally)?;
     let applying = departing::of_loading(bytes);
     for &(departure, _) in &applying {
         let differs = if departure.stops_loading() { our.refusal == 0 } else { kind == Kind::Returned };

@@ -23,6 +23,7 @@ mod random_fonts;
 mod reading;
 mod sides;
 mod smallest;
+mod strict;
 mod tally;
 mod texts;
 mod twins;
@@ -76,6 +77,10 @@ fn main() {
     }
     if tally.coloured_in_usual_rows() < 10_000 {
         println!("oracle: too few drawings of rows in another order coloured pixels");
+        exit(1);
+    }
+    if tally.strictly_loaded().iter().any(|&fonts| fonts < 1000) {
+        println!("oracle: too few fonts were loaded strictly, or refused");
         exit(1);
     }
     for name in tally.never_used() {

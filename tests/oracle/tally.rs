@@ -12,6 +12,8 @@ pub struct Tally {
     used: BTreeMap<usize, u64>,
     coloured: BTreeMap<usize, u64>,
     vetted: BTreeMap<u32, u64>,
+    /// fonts by what strict loading answers: the record, a refusal of loading, 27
+    strict: [u64; 3],
     /// drawings of rows in another order that 000 was given in the usual one, and those of them with pixels coloured
     usual_rows: [u64; 2],
     /// without 000: refused 15
@@ -37,6 +39,19 @@ impl Tally {
     /// with this number, or 0
     pub fn vetted(&mut self, number: u32) {
         *self.vetted.entry(number).or_default() += 1;
+    }
+
+    /// with this number, or 0
+    pub fn strict(&mut self, number: u32) {
+        self.strict[match number {
+            0 => 0,
+            27 => 2,
+            _ => 1,
+        }] += 1;
+    }
+
+    pub fn strictly_loaded(&self) -> [u64; 3] {
+        self.strict
     }
 
     /// those that were, of all calls
@@ -92,10 +107,18 @@ impl Tally {
         for (why, count) in &self.not_compared {
             println!("not compared, because {why}: {count}");
         }
+        let [loaded, refused, differing] = self.strict;
+        println!(
+            "strict loading: {loaded} fonts with the record of loading, {refused} with its refusal, {differing} \
+             refused 27 at the first table whose own format is not the directory's"
+        );
         let refused: Vec<String> =
             self.vetted.iter().filter(|(&n, _)| n != 0).map(|(n, count)| format!("{n}: {count}")).collect();
         let passed = self.vetted.get(&0).unwrap_or(&0);
-        println!("vetting: {passed} fonts pass and others are refused ({}), as 000's answers tell", refused.join(", "));
+        println!(
+            "vetting: {passed} fonts pass and others are refused ({}), as 000's answers and the two formats tell",
+            refused.join(", ")
+        );
         println!("arguments outside the limits: {} calls of the port, each refused 15", self.outside);
         println!("UTF-8: {} calls of the port agree with Rust's own decoder", self.utf8);
     }

@@ -1,4 +1,5 @@
-//! Twins: a font rewritten so that 000 should read in it what the port reads in the font itself.
+//! Twins: a font rewritten so that 000 should read in it what the port reads in the font itself. Each table's format in
+//! the directory is its own.
 use crate::fonts::{accelerators, font, four, narrow_metrics, two, word, Table, BIG, COMPRESSED};
 use crate::orders;
 use crate::reading::{entries, is_char_mode, metrics, part};
@@ -26,7 +27,7 @@ fn doubled_codes(b: &[u8], rec: &Record) -> Option<Table> {
     let last = u16::try_from(u64::from(last) + more).ok()?;
     bytes[at..at + 2].copy_from_slice(&two(form, last));
     bytes.resize(bytes.len() + codes.size as usize, 0xFF);
-    Some(Table { kind: 32, form, bytes })
+    Some(Table::as_it_says(32, bytes))
 }
 
 fn fits(m: &Metrics) -> bool {
@@ -39,16 +40,17 @@ fn fits(m: &Metrics) -> bool {
 fn moved_metrics(b: &[u8], rec: &Record) -> Option<Table> {
     let (m, form) = (&rec.metrics, form(rec.metrics.big));
     if m.compressed {
-        let bytes = part(b, m.records - 6, m.records + 5 * u64::from(m.count)).to_vec();
-        return Some(Table { kind: 4, form: form | COMPRESSED, bytes: padded(bytes) });
+        let rest = part(b, m.records - 2, m.records + 5 * u64::from(m.count));
+        let bytes = [&word(form | COMPRESSED)[..], rest].concat();
+        return Some(Table::as_it_says(4, padded(bytes)));
     }
     let head = [&word(form)[..], &four(form, m.count)].concat();
     if m.count == 0 {
-        return Some(Table { kind: 4, form, bytes: head });
+        return Some(Table::as_it_says(4, head));
     }
     let records = part(b, m.records, m.records + 12 * u64::from(m.count));
     if records[..2] == head[6..8] {
-        return Some(Table { kind: 4, form, bytes: [&head[..], &records[2..]].concat() });
+        return Some(Table::as_it_says(4, [&head[..], &records[2..]].concat()));
     }
     let all: Vec<Metrics> = (0..m.count.min(65_536)).filter_map(|g| metrics(b, rec, g as u16, 0)).collect();
     (m.count < 65_536 && all.iter().all(fits)).then(|| narrow_metrics(form, &all))
@@ -72,7 +74,7 @@ pub fn given(given: Given, b: &[u8], rec: &Record) -> Option<Vec<u8>> {
 /// None where there is no such font
 pub fn twin(b: &[u8], rec: &Record) -> Option<Vec<u8>> {
     let (from, to) = (rec.bitmaps.offsets - 8, rec.bitmaps.bits + rec.bitmaps.size);
-    with_bitmaps(b, rec, Table { kind: 8, form: 0, bytes: part(b, from, to).to_vec() })
+    with_bitmaps(b, rec, Table::as_it_says(8, part(b, from, to).to_vec()))
 }
 
 pub fn with_bitmaps(b: &[u8], rec: &Record, bitmaps: Table) -> Option<Vec<u8>> {
@@ -88,7 +90,7 @@ pub fn with_bitmaps(b: &[u8], rec: &Record, bitmaps: Table) -> Option<Vec<u8>> {
         a.padding,
     ];
     let three = [a.font_ascent, a.font_descent, a.max_overlap];
-    let copied = |kind, from: u64, to: u64| Table { kind, form: 0, bytes: part(b, from - 8, to).to_vec() };
+    let copied = |kind, from: u64, to: u64| Table::as_it_says(kind, part(b, from - 8, to).to_vec());
     let tables = [
         copied(1, rec.props.records, rec.props.strings + rec.props.size),
         accelerators(2, a.format, flags, three, &a.minbounds, &a.maxbounds),

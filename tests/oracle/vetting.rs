@@ -1,5 +1,6 @@
 //! Vetting, which 000 does not have: what it has to answer is told by 000's own answers about every property and every
-//! character. 000 is given a font of which it sees all codes.
+//! character. 000 is given a font of which it sees all codes. A font in which a table's two formats differ, of which
+//! 000 looks at one alone, is refused 27; it is vetted once more with the other one changed.
 use crate::asked::{Call, Function::*};
 use crate::calls;
 use crate::compare::{hold, Verdict};
@@ -7,6 +8,7 @@ use crate::departures;
 use crate::orders;
 use crate::reading::{self, Drawing, Slot};
 use crate::sides::{their, Given, Kind, Pair};
+use crate::strict;
 use crate::structs::PLAIN;
 use crate::tally::Tally;
 
@@ -81,7 +83,23 @@ pub fn compare(pair: &Pair, tally: &mut Tally) -> Verdict {
     if orders::other(&pair.rec) && pair.given != Given::UsualRows {
         return Ok(()); // 000 draws nothing of it; it is asked again with the rows in the usual order
     }
+    let Some(entry) = strict::differing(pair.ours) else { return as_000_tells(pair, pair.ours, tally) };
+    tally.vetted(27);
     let our = calls::vet(pair.ours, PLAIN);
+    let said = format!("vetting answers {} at {}", our.refusal, our.place);
+    hold((our.refusal, our.place) == (27, entry), &format!("{said}, by the two formats it is 27 at {entry}"))?;
+    match strict::agreeing(pair.ours) {
+        Some(made) => as_000_tells(pair, &made, tally),
+        None => {
+            tally.not_compared("a format word that could be changed for vetting stands in another table too");
+            Ok(())
+        }
+    }
+}
+
+/// vetting the pair's font, which may be given with formats that agree
+fn as_000_tells(pair: &Pair, ours: &[u8], tally: &mut Tally) -> Verdict {
+    let our = calls::vet(ours, PLAIN);
     let of_a_surrogate = our.refusal >= 10 && (0xD800..=0xDFFF).contains(&our.place);
     let Some(expected) = expected(pair).filter(|_| !of_a_surrogate) else {
         tally.not_compared("000 cannot be asked for what decides in vetting");

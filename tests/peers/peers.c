@@ -1,6 +1,6 @@
 /* Reads fonts with FreeType and with the library, and compares all that both answer: properties, accelerators, the
  * glyph of every code, metrics, bitmaps, characters and texts drawn, vetting. FreeType does not read the names of
- * glyphs; those that are given with a font are compared.
+ * glyphs; those that are given with a font are compared. A font that both read has to load strictly too.
  *
  * Standard input has for each font three lengths, eight bytes each as the machine has them, then the font's name, its
  * bytes, and lines of a code and its glyph's name. Standard output has the first differences, for each vetted font a
@@ -79,6 +79,7 @@ static void font(FT_Library library, const char *name, const uint8_t *bytes, siz
     count.long_metrics += !f.rec.metrics.compressed;
     count.padded_to_8 += f.rec.bitmaps.pad == 8;
     count.usual += f.rec.bitmaps.unit == 0 && f.rec.bitmaps.top;
+    strict_loading(&f);
     accelerators(&f);
     for (k = 0; k < f.rec.props.count; k++)
         property(&f, k);

@@ -1,7 +1,8 @@
 #!/usr/bin/env python3
 """Reads every font of Debian's xfonts-base, xfonts-terminus and xfonts-unifont with the library and with FreeType, and
 compares all that both answer (peers.c). FreeType does not read the names of glyphs: those are compared with the ones
-that pcf2bdf writes.
+that pcf2bdf writes. Each of these fonts, and of those that follow, has to load strictly, with the record that it loads
+with.
 
 All those fonts have one format. So bdftopcf writes each a second time, by turns in every format that it can: row pad,
 bit order, byte order and scan unit; the tests' own writer then pads some rows to 8 bytes. One in four has a last glyph
@@ -224,6 +225,7 @@ def compared(program, folder, given):
 
 REPORT = """\
 peers: {fonts} {what} read by both, {neither} by neither
+    {strictly} load strictly, each with the record that loading gives
     {long_metrics} have metrics of 12 bytes, {padded_to_8} rows padded to 8, {usual} one-byte units with the top bit \
 leftmost
     vetting passes {vetted}, refuses 11 {refused_11}, 13 {refused_13}, 14 {refused_14}; as FreeType's metrics and the \
@@ -245,6 +247,8 @@ def report(what, count):
     for name in ("fonts", "bounds", "vetted", "numbers", "strings", "with_glyph", "bitmaps", "characters", "texts"):
         if count[name] == 0:
             fail("%s: nothing was compared, %s" % (what, count))
+    if count["strictly"] != count["fonts"]:
+        fail("%s: %d of %d load strictly" % (what, count["strictly"], count["fonts"]))
     print(REPORT.format(what=what, **count))
 
 

@@ -111,6 +111,7 @@ pub(crate) fn version() -> u32 {
 
 calls! {
     fn load(bytes: &[u8]) -> FontAnswer;
+    fn load_strict(bytes: &[u8]) -> FontAnswer;
     fn vet(bytes: &[u8], mode: u32) -> FontAnswer;
     fn property(bytes: &[u8], rec: Record, number: u32) -> PropertyAnswer;
     fn glyph(bytes: &[u8], rec: Record, code: CharCode, mode: u32) -> GlyphAnswer;

@@ -90,8 +90,9 @@ fn answer<T>(refusal: u32, place: u64, value: T) -> Result<T, Refusal> {
 }
 
 impl<'a> Font<'a> {
-    /// A font file, loaded. Refused 1, 2, 3, 4; entry by entry 5, 6 (in a code table 6 for its header, 7, 6 for its
-    /// entries); 8.
+    /// A font file, loaded. A table's format stands in its directory entry and once more in its own first four bytes.
+    /// Where the two differ the table's own counts, and of metrics the directory's. Refused 1, 2, 3, 4; entry by entry
+    /// 5, 6 (in a code table 6 for its header, 7, 6 for its entries); 8.
     ///
     /// ```
     /// # let file = include_bytes!("../../../examples/f.pcf");
@@ -104,10 +105,29 @@ impl<'a> Font<'a> {
         answer(a.refusal, a.place, Font { bytes, record: a.rec })
     }
 
-    /// The same, of a font of which no code's glyph is ever refused for the font's sake: in such a font a text is
-    /// refused only for itself (19), for another argument (15), or because a pixel to colour lies beyond the buffer
-    /// (16).
-    /// Refused as [`Font::load`]; 13; 11 of the bounds; 18 of a property; code by code 10, 11, 12, 14, 17, 18.
+    /// The same, of a font in which the two formats of each known table, one of type 1, 2, 4, 8, 32, 128 or 256, have
+    /// every bit alike. Where they differ, one of them is wrong, and nothing tells which: such a font is refused.
+    /// Refused 1, 2, 3, 4; entry by entry 5, 6 for the table's first four bytes, 27, 6 for the rest (in a code table 6
+    /// for its header, 7, 6 for its entries); 8.
+    ///
+    /// ```
+    /// # use thalluskin::{Font, Refusal};
+    /// # let mut file = *include_bytes!("../../../examples/f.pcf");
+    /// assert!(Font::load_strict(&file).is_ok());
+    /// file[0xa4] ^= 4; // the metrics' own format says big-endian now, and that of directory entry 2 does not
+    /// assert!(Font::load(&file).is_ok());
+    /// let refused = Font::load_strict(&file).unwrap_err();
+    /// assert_eq!(refused, Refusal { number: Refusal::TWO_FORMATS, place: 2 });
+    /// ```
+    pub fn load_strict(bytes: &'a [u8]) -> Result<Font<'a>, Refusal> {
+        let a = calls::load_strict(bytes);
+        answer(a.refusal, a.place, Font { bytes, record: a.rec })
+    }
+
+    /// A font that loads strictly and of which no code's glyph is ever refused for the font's sake: in such a font a
+    /// text is refused only for itself (19), for another argument (15), or because a pixel to colour lies beyond the
+    /// buffer (16).
+    /// Refused as [`Font::load_strict`]; 13; 11 of the bounds; 18 of a property; code by code 10, 11, 12, 14, 17, 18.
     ///
     /// ```
     /// # use thalluskin::{Font, Refusal};

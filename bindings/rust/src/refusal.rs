@@ -1,8 +1,8 @@
 use core::fmt;
 
-/// Why a call has no result: the refusal's number, and where. The place is the directory entry for 5, 6 and 7 in
-/// loading; in vetting the property or the code; in a text the byte where the refusing character starts; for 19 the
-/// first byte at which no character starts, or 0 where the text is too long; else 0.
+/// Why a call has no result: the refusal's number, and where. The place is the directory entry for 5, 6, 7 and 27 in
+/// loading, and so in vetting too; else in vetting the property or the code; in a text the byte where the refusing
+/// character starts; for 19 the first byte at which no character starts, or 0 where the text is too long; else 0.
 ///
 /// ```
 /// # use thalluskin::{Font, Refusal};
@@ -14,7 +14,7 @@ use core::fmt;
 /// It is a `core::error::Error` from Rust 1.81 on, which was the first to have that outside std.
 #[derive(Clone, Copy, Debug, PartialEq, Eq)]
 pub struct Refusal {
-    /// Which one it is, 1 to 19: one of the constants below. It would be 0 only if an answer pointed outside the
+    /// Which one it is, 1 to 19 or 27: one of the constants below. It would be 0 only if an answer pointed outside the
     /// font's bytes, which the proofs exclude.
     pub number: u32,
     /// Where.
@@ -63,6 +63,8 @@ impl Refusal {
     pub const BAD_STRING: u32 = 18;
     /// Text too long or not UTF-8.
     pub const BAD_TEXT: u32 = 19;
+    /// A known table's format differs from its directory entry's.
+    pub const TWO_FORMATS: u32 = 27;
 }
 
 impl Refusal {
@@ -97,6 +99,7 @@ impl Refusal {
             Refusal::NO_NAME => "glyph at or above the names count, or property number too high",
             Refusal::BAD_STRING => "string offset beyond the string data, or no zero byte at or after it",
             Refusal::BAD_TEXT => "text too long or not UTF-8",
+            Refusal::TWO_FORMATS => "a known table's format differs from its directory entry's",
             _ => "an unknown reason",
         }
     }

@@ -38,6 +38,37 @@ fn damaged_fonts() {
     }
 }
 
+// F with one byte of a table's own format, or of its directory entry's, changed: F loads as it did where that word does
+// not count, and strictly not at all.
+#[test]
+fn two_formats() {
+    let refused = |font: Result<Font, Refusal>| font.map(|_| ()).unwrap_err();
+    let usual = *Font::load(F).unwrap().record();
+    assert_eq!(Font::load_strict(F).map(|font| *font.record()), Ok(usual));
+    assert_eq!(Font::vet(F).map(|font| *font.record()), Ok(usual));
+    for place in 0..6 {
+        let entry = 8 + 16 * place;
+        let own = u64::from(u32::from_le_bytes(F[entry + 12..entry + 16].try_into().unwrap()));
+        let two = Refusal { number: Refusal::TWO_FORMATS, place: place as u64 };
+        for byte in 0..4 {
+            for at in [own + byte, entry as u64 + 4 + byte] {
+                let changed = with_bytes(F, &[(at, F[at as usize] ^ 0x40)]);
+                assert_eq!(refused(Font::load_strict(&changed)), two, "byte {}", at);
+                assert_eq!(refused(Font::vet(&changed)), two, "byte {}", at);
+                let loaded = *Font::load(&changed).unwrap().record();
+                let kept = Record { accel: Accelerators { format: usual.accel.format, ..loaded.accel }, ..loaded };
+                assert_eq!(kept, usual, "byte {}", at);
+            }
+        }
+    }
+    // where an entry is refused too, the first decides
+    let cut = with_bytes(F, &[(0xa4, 4), (8 + 16 + 8, 47)]);
+    assert_eq!(refused(Font::load_strict(&cut)), Refusal { number: Refusal::BAD_TABLE, place: 1 });
+    let cut_later = with_bytes(F, &[(0xa4, 4), (8 + 16 * 3 + 8, 37)]);
+    assert_eq!(refused(Font::load(&cut_later)), Refusal { number: Refusal::BAD_TABLE, place: 3 });
+    assert_eq!(refused(Font::load_strict(&cut_later)), Refusal { number: Refusal::TWO_FORMATS, place: 2 });
+}
+
 // What `Font::vet` says of two causes at one place: the bounds or code 0's glyph for 11, a property or a name for 18.
 #[test]
 fn causes_that_share_a_place() {
@@ -189,7 +220,8 @@ fn other_orders() {
     let data = usual.record().bitmaps;
     let (offsets, bits, size) = (data.offsets as usize, data.bits as usize, data.size as usize);
     let mut lowest = F.to_vec();
-    lowest[offsets - 8] ^= 8; // the table's format
+    lowest[offsets - 8] ^= 8; // the table's format, and that of its directory entry, the fourth
+    lowest[8 + 16 * 3 + 4] ^= 8;
     for byte in &mut lowest[bits..bits + size] {
         *byte = byte.reverse_bits();
     }
@@ -307,13 +339,15 @@ fn the_version() {
 #[test]
 fn every_number_has_its_words() {
     let mut all = Vec::new();
-    for number in 0..21 {
+    for number in (0..20).chain([Refusal::TWO_FORMATS, 20]) {
         let refusal = Refusal { number, place: 3 };
         assert_eq!(refusal.to_string(), format!("refused {} at 3: {}", number, refusal.reason()));
         assert!(!all.contains(&refusal.reason()));
         all.push(refusal.reason());
     }
-    assert_eq!(all[20], "an unknown reason");
+    for number in [20, 21, 26, 28] {
+        assert_eq!(Refusal { number, place: 0 }.reason(), "an unknown reason");
+    }
 }
 
 #[cfg(thalluskin_core_error)]
