@@ -23,7 +23,7 @@
  *   - the stack has room. On x86-64 a call takes at most, in bytes, with its return address and what it stores below
  *     the stack's pointer, as Linux programs may, and without memcpy and memset:
  *
- *         thk_vet 3,700; thk_load 3,300; thk_load_strict 3,300
+ *         thk_vet 3,700; thk_load 3,200; thk_load_strict 3,200
  *         thk_draw_string 1,300; thk_text_check 1,300
  *         thk_draw_char 900; thk_draw_bitmap 900; thk_draw_glyph 800; thk_unpack_glyph 400
  *         thk_prep_char 700; thk_metrics 300; thk_property 200; each of the others 100

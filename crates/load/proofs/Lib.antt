@@ -4,5 +4,7 @@ pub mod LastServes
 mod TablesFit
 pub mod Refusals
 pub mod Serves
+mod DifferingEntry
+mod StrictWalk
 pub mod StrictLoading
 pub mod KnownTypes

@@ -173,8 +173,9 @@ fn all_entries(s: &[u8], strict: bool, count: usize) -> Loaded
     finish(g)
 }
 
-// Loading, strict or not.
-fn load_in(bytes: &[u8], strict: bool) -> Loaded
+// `load_strict` where `strict` is asked, else `load_pcf`: for the crates above, which would copy the record
+// once more through either.
+pub fn load_in(bytes: &[u8], strict: bool) -> Loaded
     ensures { λ r. ⌜ r ≡ loadedIn strict (now (bytes .entry)) ⌝ }
 {
     if bytes.len() < 8 {

@@ -1,7 +1,7 @@
 -- What a caller in C reads off an exported function's answer is what document 01 says of the library's: number and place on a refusal, and
 -- the values where `refusal` is 0.
 use mathlib.Core.Path.{_≡_, refl}
-use mathlib.Core.Bool.{true, false, cond}
+use mathlib.Core.Bool.{cond}
 use mathlib.Core.List.{List}
 use Prim.Native.Nat.{ℕ, zero, suc}
 use lib.IntN.{ℤ}

@@ -43,6 +43,8 @@ use Rattle.tables.proofs.record_fits.Kinds as record-fits-kinds
 use Rattle.tables.proofs.record_fits.Reads as record-fits-reads
 use Rattle.tables.proofs.guard.Kinds as guard-kinds
 use Rattle.tables.proofs.guard.Reads as guard-reads
+use Rattle.load.proofs.load_in.Kinds as load-in-kinds
+use Rattle.load.proofs.load_in.Reads as load-in-reads
 use Rattle.load.proofs.load_pcf.Kinds as load-pcf-kinds
 use Rattle.load.proofs.load_pcf.Reads as load-pcf-reads
 use Rattle.load.proofs.load_strict.Kinds as load-strict-kinds
@@ -237,6 +239,9 @@ record-fits-unique κs a r₁ r₂ x₁ x₂ p q = p ∙ sym q
 
 pub guard-unique : Fixes 0 guard-kinds.ps guard-kinds.r guard-reads.Post
 guard-unique κs a r₁ r₂ x₁ x₂ p q = p ∙ sym q
+
+pub load-in-unique : Fixes 1 load-in-kinds.ps load-in-kinds.r load-in-reads.Post
+load-in-unique κs a r₁ r₂ x₁ x₂ p q = p ∙ sym q
 
 pub load-pcf-unique : Fixes 1 load-pcf-kinds.ps load-pcf-kinds.r load-pcf-reads.Post
 load-pcf-unique κs a r₁ r₂ x₁ x₂ p q = p ∙ sym q

@@ -10,8 +10,7 @@ use font::Reading;
 use font::record_of;
 use load::Loaded;
 use load::blank;
-use load::load_pcf;
-use load::load_strict;
+use load::load_in;
 use load::no_metrics;
 use lookup::Found;
 use lookup::glyph_of;
@@ -73,7 +72,7 @@ fn font_answer(loaded: Loaded) -> FontAnswer
 pub extern "C" fn thalluskin_load(bytes: &[u8]) -> FontAnswer
     ensures { λ r. ⌜ r ≡ fontAnswer (loaded (now (bytes .entry))) ⌝ }
 {
-    font_answer(load_pcf(bytes))
+    font_answer(load_in(bytes, false))
 }
 
 // The record of a font file in which no known table's own format word differs from its directory entry's, as
@@ -83,7 +82,7 @@ pub extern "C" fn thalluskin_load(bytes: &[u8]) -> FontAnswer
 pub extern "C" fn thalluskin_load_strict(bytes: &[u8]) -> FontAnswer
     ensures { λ r. ⌜ r ≡ fontAnswer (loadedStrictly (now (bytes .entry))) ⌝ }
 {
-    font_answer(load_strict(bytes))
+    font_answer(load_in(bytes, true))
 }
 
 // The record of a font file that passes vetting, as `vet::vet` answers it. Refused 15 for an unknown mode; as

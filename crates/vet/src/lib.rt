@@ -3,7 +3,7 @@ use bitmaps::no_bitmap;
 use bitmaps::rows_short;
 use bitmaps::unreadable;
 use load::Loaded;
-use load::load_strict;
+use load::load_in;
 use lookup::Found;
 use lookup::code_range;
 use lookup::glyph_of;
@@ -150,7 +150,7 @@ fn vet_record(s: &[u8], rec: Record) -> Vetted
 pub fn vet(bytes: &[u8]) -> Vetted
     ensures { λ r. ⌜ r ≡ vetted (now (bytes .entry)) ⌝ }
 {
-    match load_strict(bytes) {
+    match load_in(bytes, true) {
         Loaded::Font(rec) => vet_record(bytes, rec),
         Loaded::Refused(r) => Vetted::Refused(r),
     }

@@ -7,7 +7,7 @@ pub vet-spec : {M : Type 1} → statement M
 vet-spec =
     tie.close
     (tie.spec
-    (λ c κs. search needs)  -- load-strict-requires
+    (λ c κs. search needs)  -- load-in-requires
     (λ c. search needs)  -- enum-known-rec
     (λ c κs. search needs)  -- vet-record-requires
     (λ c. search needs)  -- enum-known-r

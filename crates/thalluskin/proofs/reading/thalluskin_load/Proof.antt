@@ -8,6 +8,6 @@ pub thalluskin-load-spec : {M : Type 1} → statement M
 thalluskin-load-spec =
     tie.close
     (tie.spec
-    (λ c κs. search needs)  -- load-pcf-requires
+    (λ c κs. search needs)  -- load-in-requires
     (λ c κs. search needs)  -- font-answer-requires
     (λ c. search (called fontAnswer)))  -- returns
