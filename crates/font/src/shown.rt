@@ -4,8 +4,7 @@ use crate::Reading;
 use crate::open;
 use glyphs::CharDrawn;
 use load::Loaded;
-use load::load_pcf;
-use load::load_strict;
+use load::load_in;
 use reads::CharCode;
 use tables::Record;
 use text::TextDrawn;
@@ -25,8 +24,8 @@ pub fn record_of(bytes: &[u8], reading: Reading) -> Loaded
     ensures { λ r. ⌜ r ≡ recordOf (now (bytes .entry)) reading ⌝ }
 {
     match reading {
-        Reading::Tolerant => load_pcf(bytes),
-        Reading::Strict => load_strict(bytes),
+        Reading::Tolerant => load_in(bytes, false),
+        Reading::Strict => load_in(bytes, true),
         Reading::Vetted => {
             let vetted = vet(bytes);
             match vetted {

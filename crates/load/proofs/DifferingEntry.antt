@@ -32,6 +32,7 @@ module _ (s : List ℕ) where
       let (known, there) = both (knownType (entryKind s k)) (leb (at + 4) end) held in
       (known, leb-true (at + 4) end there, eqb-false (formatAt s at) (entryFormat s k) (split word (λ t. never (rw t at other)) (λ t. t)))
 
+  -- which is what plain logic says, both ways
   pub differs-is : (k : ℕ) → k < directoryCount s → differs k ≡ true → Differs s k
   differs-is k h e =
       let (known, inside, other) = tests k e in
@@ -44,13 +45,11 @@ module _ (s : List ℕ) where
       let end = min (at + entrySize s k) (length s) in
       rw (d .known, le-leb (at + 4) end (omega (arith, d .sized, d .in-file)), ne-eqb (formatAt s at) (entryFormat s k) (d .other)) refl
 
+  -- where it passes, the entry is as in tolerant loading
   pub entry-alike : (k : ℕ) (g : Gathered) → differs k ≡ false → entryAt true s k g ≡ entryAt false s k g
   unfolding entryAt entryOf tableIn
   entry-alike k g e = rw e refl
 
-  pub entry-told : (k : ℕ) (g : Gathered) → differs k ≡ true → entryAt true s k g ≡ Entered.Refused 27
+  pub entry-27 : (k : ℕ) (g : Gathered) → differs k ≡ true → entryAt true s k g ≡ Entered.Refused 27
   unfolding entryAt entryOf tableIn
-  entry-told k g t = let (known, inside, other) = tests k t in rw (le-ltb (length s) (entryOffset s k) (omega (arith, inside)), t) refl
-
-  pub entry-27 : (k : ℕ) (g : Gathered) → Differs s k → entryAt true s k g ≡ Entered.Refused 27
-  entry-27 k g d = entry-told k g (is-differs k d)
+  entry-27 k g t = let (known, inside, other) = tests k t in rw (le-ltb (length s) (entryOffset s k) (omega (arith, inside)), t) refl

@@ -1,7 +1,7 @@
 -- The known types are just those that loading reads, and a known table without its first four bytes is refused 6, before its format is asked.
 use Prim.Native.Nat.{ℕ, _+_, _<_}
-use mathlib.Core.Path.{_≡_, refl}
-use mathlib.Core.Bool.{Bool, true, false, _||_}
+use mathlib.Core.Path.{_≡_, refl, subst}
+use mathlib.Core.Bool.{Bool, true, false, _&&_, _||_}
 use mathlib.Core.List.{List}
 use mathlib.Core.Logic.{_↔_}
 use native.Mathlib.Omega.{arith}
@@ -23,6 +23,17 @@ past-word : (compressed : Bool) → 4 < metricsFrom compressed
 past-word true = omega arith
 past-word false = omega arith
 
+-- a table that was read, or refused
+abbrev IsTable : TableRead → Type 0
+IsTable (TableRead.Properties t) = Unit {0}
+IsTable (TableRead.Accelerators t) = Unit {0}
+IsTable (TableRead.Metrics t) = Unit {0}
+IsTable (TableRead.Bitmaps t) = Unit {0}
+IsTable (TableRead.Codes t) = Unit {0}
+IsTable (TableRead.Names t) = Unit {0}
+IsTable TableRead.Other = ⊥
+IsTable (TableRead.Refused n) = Unit {0}
+
 module _ (s : List ℕ) (kind format at end : ℕ) where
   -- what holds of each of the six readers holds of a known table
   by-kind : (P : TableRead → Type 0) → P (propertiesAt s at end) → P (acceleratorsAt s at end) → P (metricsAt s format at end)
@@ -36,17 +47,6 @@ module _ (s : List ℕ) (kind format at end : ℕ) where
       (λ t₈. split (eqb kind 32) (λ t. rw (t₁, t₂, t₄, t₈, t) c)
       (λ t₃₂. split (eqb kind 128) (λ t. rw (t₁, t₂, t₄, t₈, t₃₂, t) n)
       (λ t₁₂₈. let (u, v) = or-neither (eqb kind 2) (eqb kind 256) t₂ in never (rw (t₁, u, t₄, t₈, t₃₂, t₁₂₈, v) at known)))))))
-
-  -- a table that was read, or refused
-  abbrev IsTable : TableRead → Type 0
-  IsTable (TableRead.Properties t) = Unit {0}
-  IsTable (TableRead.Accelerators t) = Unit {0}
-  IsTable (TableRead.Metrics t) = Unit {0}
-  IsTable (TableRead.Bitmaps t) = Unit {0}
-  IsTable (TableRead.Codes t) = Unit {0}
-  IsTable (TableRead.Names t) = Unit {0}
-  IsTable TableRead.Other = ⊥
-  IsTable (TableRead.Refused n) = Unit {0}
 
   known-table : knownType kind ≡ true → IsTable (tableAt s kind format at end)
   unfolding propertiesAt acceleratorsAt metricsAt bitmapsAt codesAt namesAt
@@ -72,12 +72,16 @@ module _ (s : List ℕ) (kind format at end : ℕ) where
       let (t₁, t₂) = or-neither (eqb kind 1) (eqb kind 2) upto-2 in
       rw (t₁, t₂, t₂₅₆, t₄, t₈, t₃₂, t₁₂₈) refl
 
-  -- a table is passed over exactly if its type is not known
-  pub other-unknown : (tableAt s kind format at end ≡ TableRead.Other) ↔ (knownType kind ≡ false)
-  other-unknown = (
-    λ e. split (knownType kind) (λ t. absurd (rw e at (known-table t))) (λ t. t),
-    unknown-other,
-  )
+  -- a table is passed over, and its format not compared, exactly if its type is not known
+  pub other-unknown : (strict : Bool) → (tableIn strict s kind format at end ≡ TableRead.Other) ↔ (knownType kind ≡ false)
+  unfolding tableIn formatDiffers
+  other-unknown strict = (
+    λ e. split (knownType kind) (λ t. absurd (subst IsTable e (either IsTable (strict && formatDiffers s kind format at end) tt (known-table t)))) (λ t. t),
+    unread strict,
+  ) where
+    unread : (strict : Bool) → knownType kind ≡ false → tableIn strict s kind format at end ≡ TableRead.Other
+    unread true t = rw t (unknown-other t)
+    unread false t = unknown-other t
 
   -- every table's contents have more than four bytes
   short-six : knownType kind ≡ true → end < at + 4 → tableAt s kind format at end ≡ TableRead.Refused 6

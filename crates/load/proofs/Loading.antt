@@ -61,26 +61,25 @@ module _ (strict : Bool) (s : List ℕ) (g : Gathered) (kind format size offset 
     unfolding entryAt
     entry-read k kind-is format-is size-is offset-is is = is ∙ rw (kind-is, format-is, size-is, offset-is, add-zero)
 
--- ---- a table's own format, in strict loading or not
+-- ---- a table in strict loading or not
 
-module _ (s : List ℕ) (kind format at end : ℕ) where
-  module _ (strict : Bool) where
-    pub not-asked : strict ≡ false → false ≡ (strict && formatDiffers s kind format at end)
-    not-asked tolerant = rw tolerant
+module _ (s : List ℕ) (kind format at end : ℕ) (strict : Bool) where
+  pub not-asked : strict ≡ false → false ≡ (strict && formatDiffers s kind format at end)
+  not-asked tolerant = rw tolerant
 
-    pub word-compared : (known : Bool) (own : ℕ) → strict ≡ true → own ≡ u32At false s (at + 0) → known ≡ knownType kind
-        → (known && leb (at + 4) end && not (eqb own format)) ≡ (strict && formatDiffers s kind format at end)
-    unfolding formatDiffers
-    word-compared known own asked own-is known-is = rw (asked, known-is, own-is, add-zero)
+  pub word-compared : (known : Bool) (own : ℕ) → strict ≡ true → own ≡ u32At false s (at + 0) → known ≡ knownType kind
+      → (known && leb (at + 4) end && not (eqb own format)) ≡ (strict && formatDiffers s kind format at end)
+  unfolding formatDiffers
+  word-compared known own asked own-is known-is = rw (asked, known-is, own-is, add-zero)
 
-    module _ (refused : Bool) (refused-is : refused ≡ (strict && formatDiffers s kind format at end)) where
-      pub format-refused : refused ≡ true → TableRead.Refused 27 ≡ tableIn strict s kind format at end
-      unfolding tableIn
-      format-refused e = rw (← refused-is, e)
+  module _ (refused : Bool) (refused-is : refused ≡ (strict && formatDiffers s kind format at end)) where
+    pub format-refused : refused ≡ true → TableRead.Refused 27 ≡ tableIn strict s kind format at end
+    unfolding tableIn
+    format-refused e = rw (← refused-is, e)
 
-      pub format-passed : (r : TableRead) → refused ≡ false → r ≡ tableAt s kind format at end → r ≡ tableIn strict s kind format at end
-      unfolding tableIn
-      format-passed r e is = rw (← refused-is, e) is
+    pub format-passed : (r : TableRead) → refused ≡ false → r ≡ tableAt s kind format at end → r ≡ tableIn strict s kind format at end
+    unfolding tableIn
+    format-passed r e is = rw (← refused-is, e) is
 
 -- ---- a table: its type is one of the numbers that are asked for, and then decides every test, or none of them
 

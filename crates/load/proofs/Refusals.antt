@@ -37,32 +37,32 @@ abbrev EntryBy : List ℕ → Entered → Type 0
 EntryBy es (Entered.Next g) = Unit {0}
 EntryBy es (Entered.Refused n) = elem n es ≡ true
 
+added-numbered : (es : List ℕ) (g : Gathered) (t : TableRead) → NumberedBy es (saidTable t) → EntryBy es (added g t)
+added-numbered es g (TableRead.Properties p) h = tt
+added-numbered es g (TableRead.Accelerators a) h = tt
+added-numbered es g (TableRead.Metrics m) h = tt
+added-numbered es g (TableRead.Bitmaps b) h = tt
+added-numbered es g (TableRead.Codes c) h = tt
+added-numbered es g (TableRead.Names n) h = tt
+added-numbered es g TableRead.Other h = tt
+added-numbered es g (TableRead.Refused n) h = h .is
+
 -- loading, strict or not, where a table is refused with one of `es`, and so is an entry with 5
 module _ (strict : Bool) (es : List ℕ) (s : List ℕ) (five : elem 5 es ≡ true)
     (tables : (kind format at end : ℕ) → NumberedBy es (saidTable (tableIn strict s kind format at end)))
   where
-    added-numbered : (g : Gathered) (t : TableRead) → NumberedBy es (saidTable t) → EntryBy es (added g t)
-    added-numbered g (TableRead.Properties p) h = tt
-    added-numbered g (TableRead.Accelerators a) h = tt
-    added-numbered g (TableRead.Metrics m) h = tt
-    added-numbered g (TableRead.Bitmaps b) h = tt
-    added-numbered g (TableRead.Codes c) h = tt
-    added-numbered g (TableRead.Names n) h = tt
-    added-numbered g TableRead.Other h = tt
-    added-numbered g (TableRead.Refused n) h = h .is
-
     entry-numbered : (k : ℕ) (g : Gathered) → EntryBy es (entryAt strict s k g)
     unfolding entryAt entryOf
     entry-numbered k g =
         let at = entryOffset s k in
         let end = min (at + entrySize s k) (length s) in
         let table = tableIn strict s (entryKind s k) (entryFormat s k) at end in
-        either (EntryBy es) (ltb (length s) at) five (added-numbered g table (tables (entryKind s k) (entryFormat s k) at end))
+        either (EntryBy es) (ltb (length s) at) five (added-numbered es g table (tables (entryKind s k) (entryFormat s k) at end))
 
     -- the whole, with those of loading besides
     module _ (ns : List ℕ) (more : all-in es ns ≡ true) (besides : all-in ofLoading ns ≡ true) where
-      known : (n : ℕ) → elem n ofLoading ≡ true → elem n ns ≡ true
-      known n = elem-more n ofLoading ns besides
+      also-in : (n : ℕ) → elem n ofLoading ≡ true → elem n ns ≡ true
+      also-in n = elem-more n ofLoading ns besides
 
       after-entry : (e : Entered) (k : ℕ) (rest : Gathered → Loaded) → EntryBy es e
           → ((g : Gathered) → NumberedBy ns (saidLoaded (rest g))) → NumberedBy ns (saidLoaded (afterEntry e k rest))
@@ -71,7 +71,7 @@ module _ (strict : Bool) (es : List ℕ) (s : List ℕ) (five : elem 5 es ≡ tr
 
       entries-numbered : (n k : ℕ) (g : Gathered) → NumberedBy ns (saidLoaded (entriesFrom strict s n k g))
       unfolding entriesFrom finished
-      entries-numbered zero k g = whichever saidLoaded (allSix (g .kinds)) has-values (has-number (known 8 refl))
+      entries-numbered zero k g = whichever saidLoaded (allSix (g .kinds)) has-values (has-number (also-in 8 refl))
       entries-numbered (suc n) k g =
           after-entry (entryAt strict s k g) k (λ h. entriesFrom strict s n (k + 1) h) (entry-numbered k g) (λ h. entries-numbered n (k + 1) h)
 
@@ -79,10 +79,10 @@ module _ (strict : Bool) (es : List ℕ) (s : List ℕ) (five : elem 5 es ≡ tr
       unfolding loadedIn
       load-numbered =
           let count = directoryCount s in
-          whichever saidLoaded (ltb (length s) 8) (has-number (known 1 refl))
-          (whichever saidLoaded (not (eqb (u32At true s 0) 0x01666370)) (has-number (known 2 refl))
-          (whichever saidLoaded (ltb 64 count) (has-number (known 3 refl))
-          (whichever saidLoaded (ltb (length s) (8 + 16 * count)) (has-number (known 4 refl)) (entries-numbered count 0 nothing))))
+          whichever saidLoaded (ltb (length s) 8) (has-number (also-in 1 refl))
+          (whichever saidLoaded (not (eqb (u32At true s 0) 0x01666370)) (has-number (also-in 2 refl))
+          (whichever saidLoaded (ltb 64 count) (has-number (also-in 3 refl))
+          (whichever saidLoaded (ltb (length s) (8 + 16 * count)) (has-number (also-in 4 refl)) (entries-numbered count 0 nothing))))
 
 -- the numbers of an entry
 abbrev pub ofEntries : List ℕ

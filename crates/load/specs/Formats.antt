@@ -30,4 +30,4 @@ pub record FirstDiffers (s : List ℕ) (k : ℕ) : Type 0 where
 -- what loading answers, if it comes to entry number k: not 1 to 4, and not 5, 6 or 7 of an entry before; 8 is "then", after all entries
 abbrev pub ComesTo : ℕ → Loaded → Type 0
 ComesTo k (Loaded.Font rec) = Unit {0}
-ComesTo k (Loaded.Refused r) = (r .number ≡ 8) ⊎ ((4 < r .number) × (k ≤ r .place))
+ComesTo k (Loaded.Refused r) = (r .number ≡ 8) ⊎ ((4 < r .number) × (r .number < 8) × (k ≤ r .place))

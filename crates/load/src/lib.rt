@@ -99,7 +99,8 @@ fn known_type(kind: u32) -> bool
         | (kind == 256)
 }
 
-// Whether `strict` asks for a known table's own format, the word is there, and it is not the directory's.
+// Whether `strict` asks for a known table's own format word, its four bytes are there, and it is not the
+// directory's. Asked first, so that the tolerant load reads no word for it.
 fn format_refused(s: &[u8], strict: bool, kind: u32, format: u32, at: u32, end: usize) -> bool
     ensures { λ r. ⌜ r ≡ (strict && formatDiffers (now (s .entry)) kind format at end) ⌝ }
 {
@@ -173,8 +174,8 @@ fn all_entries(s: &[u8], strict: bool, count: usize) -> Loaded
     finish(g)
 }
 
-// `load_strict` where `strict` is asked, else `load_pcf`: for the crates above, which would copy the record
-// once more through either.
+// `load_strict` where `strict` is asked, else `load_pcf`, with their refusals: for the crates above, which
+// would copy the record once more through either.
 pub fn load_in(bytes: &[u8], strict: bool) -> Loaded
     ensures { λ r. ⌜ r ≡ loadedIn strict (now (bytes .entry)) ⌝ }
 {
@@ -218,9 +219,11 @@ pub fn load_pcf(bytes: &[u8]) -> Loaded
     load_in(bytes, false)
 }
 
-// The same record, of a font file in which no known table's own format word differs from its directory
-// entry's. Refused as `load_pcf` is, and 27 where one differs, with the entry's number as the place: after
-// 5, and 6 for the four bytes of that word, and before every other test of that table.
+// The record that `load_pcf` gives, of a font file in which each known table begins with the format word of
+// its directory entry, in all 32 bits. Known are types 1, 2, 4, 8, 32, 128 and 256, each time where one is
+// repeated. Refused as `load_pcf` is, and 27 where the two words differ, with the entry's number as the
+// place: after 5, and after 6 for the four bytes of the table's own word, before every other test of that
+// table.
 pub fn load_strict(bytes: &[u8]) -> Loaded
     ensures { λ r. ⌜ r ≡ loadedStrictly (now (bytes .entry)) ⌝ }
 {

@@ -1,5 +1,5 @@
--- A font that loads is refused in vetting exactly where a condition of document 01 fails, with the number of the first that does and
--- its place.
+-- A font that loads is refused in vetting exactly where a condition of documents 01 and 02 fails, with the number of the first that does
+-- and its place.
 use mathlib.Core.Path.{_≡_, refl, sym, ap, subst, _∙_}
 use mathlib.Core.Bool.{true, false}
 use mathlib.Core.List.{List, [], _∷_}
@@ -24,7 +24,7 @@ use Rattle.load.specs.Load.{loaded}
 use Rattle.load.specs.declared.Loaded.{Loaded}
 use Rattle.load.specs.Formats.{FormatsAgree, FirstDiffers}
 use Rattle.load.proofs.Serves.{loaded-serves}
-use Rattle.load.proofs.StrictLoading.{strict-agrees, strict-passes, strict-27, strict-cases}
+use Rattle.load.proofs.StrictLoading.{strict-compared, strict-27, strict-agrees, strict-passes}
 use Rattle.lookup.specs.Lookup.{glyphOf}
 use Rattle.lookup.specs.declared.Found.{Found}
 use Rattle.names.specs.Names.{nameOf}
@@ -272,13 +272,14 @@ vet-refuses s rec l n place = (to, from) where
 
   to : vetted s ≡ Vetted.Refused (refusal n place) → Refuses s rec n place
   to e =
-      ⊎-elim (λ same. let agree = strict-passes s rec .0 (same ∙ l) .1 in inr (agree, by-record agree .0 e))
-      (λ (k, is).
+      ⊎-elim
+      (λ (k, first, comes, is).
       let told = sym e ∙ refused-load s (refusal 27 k) is in
       let number : n ≡ 27 = ap (λ (x : Vetted). saidVetted x .number) told in
       let at : k ≡ place = ap (λ (x : Vetted). saidVetted x .place) (sym told) in
-      inl (number, subst (FirstDiffers s) at (strict-27 s k .0 is .0)))
-      (strict-cases s)
+      inl (number, subst (FirstDiffers s) at first))
+      (λ (none, same). let agree = strict-passes s rec .0 (same ∙ l) .1 in inr (agree, by-record agree .0 e))
+      (strict-compared s)
 
   from : Refuses s rec n place → vetted s ≡ Vetted.Refused (refusal n place)
   from =

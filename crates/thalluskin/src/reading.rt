@@ -75,9 +75,10 @@ pub extern "C" fn thalluskin_load(bytes: &[u8]) -> FontAnswer
     font_answer(load_in(bytes, false))
 }
 
-// The record of a font file in which no known table's own format word differs from its directory entry's, as
-// `load::load_strict` answers it. Refused as `thalluskin_load`; and within an entry 27 after 5 and after 6 for the four
-// bytes of that word, before every other test, with the entry's number as the place.
+// The record of a font file in which each known table begins with the format word of its directory entry, as
+// `load::load_strict` answers it. Refused with the first of: 1, 2, 3, 4; entry by entry, with the entry's number from 0
+// as the place, 5, 6 for the four bytes of a known table's own word, 27 where it differs, 6 (in a code table 6 for its
+// header, 7, 6 for its entries); 8.
 #[no_mangle]
 pub extern "C" fn thalluskin_load_strict(bytes: &[u8]) -> FontAnswer
     ensures { λ r. ⌜ r ≡ fontAnswer (loadedStrictly (now (bytes .entry))) ⌝ }
@@ -86,8 +87,8 @@ pub extern "C" fn thalluskin_load_strict(bytes: &[u8]) -> FontAnswer
 }
 
 // The record of a font file that passes vetting, as `vet::vet` answers it. Refused 15 for an unknown mode; as
-// `thalluskin_load_strict`; then 13; 11 of the bounds; 18 with the property's number as the place; code by code, with the code
-// as the place, 10, 11, 12, 14, 17, 18.
+// `thalluskin_load_strict`; then 13; 11 of the bounds; 18 with the property's number as the place; code by code, with
+// the code as the place, 10, 11, 12, 14, 17, 18.
 #[no_mangle]
 pub extern "C" fn thalluskin_vet(bytes: &[u8], mode: u32) -> FontAnswer
     ensures { λ r. ⌜ r ≡ fontAnswer (cond (isKnown mode) (recordOf (now (bytes .entry)) Reading.Vetted) (Loaded.Refused (refusal 15 0))) ⌝ }

@@ -141,12 +141,12 @@ fn vet_record(s: &[u8], rec: Record) -> Vetted
     }
 }
 
-// The record of a font that passes: one in which no property is refused, and of no code the glyph, its
-// place, its rows or its name. Refused with the first trouble there is: 1 to 8 and 27 as `load_strict`
-// refuses, with its place; 13 for a scan unit code other than 0, 1, 2, or a scan unit wider than the row pad, and
-// 11 for bounds out of range, both with place 0; 18 for a property whose strings do not end, with its
-// number; then code by code, from 0 to 65,535, with the code as the place and only where it has a glyph:
-// 10 and 11 for its metrics, 12 and 14 for its bitmap, 17 and 18 for its name.
+// The record of a font that passes: one that loads strictly, in which no property is refused, and of no code
+// the glyph, its place, its rows or its name. Refused with the first trouble there is: 1 to 8 and 27 as
+// `load::load_strict` refuses, with its place; 13 for a scan unit code other than 0, 1, 2, or a scan unit
+// wider than the row pad, and 11 for bounds out of range, both with place 0; 18 for a property whose strings
+// do not end, with its number; then code by code, from 0 to 65,535, with the code as the place and only where
+// it has a glyph: 10 and 11 for its metrics, 12 and 14 for its bitmap, 17 and 18 for its name.
 pub fn vet(bytes: &[u8]) -> Vetted
     ensures { λ r. ⌜ r ≡ vetted (now (bytes .entry)) ⌝ }
 {

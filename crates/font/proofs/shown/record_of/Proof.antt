@@ -8,9 +8,9 @@ record-of-spec =
     tie.close
     (tie.spec
     (λ c. search needs)  -- enum-told
-    (λ c κs. search needs)  -- load-pcf-requires
+    (λ c κs. search needs)  -- load-in-requires
     (λ c. search needs)  -- enum-told-2
-    (λ c κs. search needs)  -- load-strict-requires
+    (λ c κs. search needs)  -- load-in-requires-2
     (λ c. search needs)  -- enum-told-3
     (λ c κs. search needs)  -- vet-requires
     (λ c. search needs)  -- enum-known-vetted
