@@ -503,7 +503,8 @@ static inline thk_font_answer thk_load_strict(const uint8_t *font, uint64_t font
 
 /* The record of a font that loads strictly and of which no code's glyph is ever refused for the font's sake: in such a
  * font a text is refused only for itself (19), for another argument (15), or because a pixel to colour lies beyond the
- * buffer (16).
+ * buffer (16). A font that thk_load takes and that is refused 27 here is to be made anew from its source, as by
+ * bdftopcf; until then the record of thk_load serves every call, without that promise.
  *
  * Two causes can share a number and a place. 11 at 0 is of the bounds if thk_dimensions, with the record that thk_load
  * gives, is refused 11; else of the glyph of code 0. 18 at n is of property n if thk_property is refused 18 for it;

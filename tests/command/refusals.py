@@ -1,4 +1,4 @@
-"""What `show` refuses, what it cannot take, and output that cannot be written."""
+"""What the commands refuse, what `show` cannot take, and output that cannot be written."""
 import os
 
 import model
@@ -6,9 +6,9 @@ from command.script import expect, run, store
 from command.shows import MOST_SHOWN, drawn_by_model
 from common import fail
 from dump import make
-from exports import formats
 from exports.header import c_words
 from pcf.font_f import DIGITS, two_digits
+from pcf.rewriting import LAST_BIT, with_own_format_bit
 
 
 def meaning(number):
@@ -17,6 +17,7 @@ def meaning(number):
         8: "; properties, accelerators, metrics, bitmaps, codes and names must be there",
         11: ", of a code's glyph or of the font's bounds; often a left bearing or an ascent below 0",
         15: "; a scale may be 1 to 64",
+        27: "; one of the two is wrong: have the font made anew, as by bdftopcf",
     }
     words = c_words()[number]
     return (words.partition(";")[0] if number == 6 else words) + added.get(number, "")
@@ -50,7 +51,7 @@ def refused_fonts():
 
 
 def not_shown(folder):
-    """refusals: nothing on standard output, no picture, and the number and the place in words"""
+    """what `show` refuses: nothing on standard output, no picture, and the number and the place in words"""
     def refused(what, said, *words):
         expect(what, run("show", *words, "--pbm", "none.pbm", folder=folder), 1, b"", said)
         if os.path.exists(os.path.join(folder, "none.pbm")):
@@ -81,9 +82,10 @@ def not_shown(folder):
 
 
 def two_formats(folder):
-    """F with a bit of one table's own format changed: each command names the table's directory entry, or the reason"""
+    """F with a bit of one table's own format changed: `show` and `record` name the table's directory entry and the
+    reason, `dump` the reason"""
     for entry in range(len(DIGITS)):
-        name = store(folder, "two_formats_%d.pcf" % entry, formats.own(two_digits(), entry, formats.LAST_BIT))
+        name = store(folder, "two_formats_%d.pcf" % entry, with_own_format_bit(two_digits(), entry, LAST_BIT))
         said = "refused 27: %s (directory entry %d of %s)\n" % (meaning(27), entry, name)
         expect(name + ", shown", run("show", "--font", name, "01", folder=folder), 1, b"", said)
         expect(name + ", recorded", run("record", name, folder=folder), 1, b"", said)

@@ -7,6 +7,7 @@ from documents import code, pages
 
 ORDER = "Refusals, in order"
 EVERY, DUMPS = [*range(1, 21), 27], 20  # the numbers, and the one that the dump program alone gives
+IN_HEADER = [0] + [n for n in EVERY if n != DUMPS]  # what the library's functions answer
 # answers the refusal's number itself, so that its type does not show that it refuses
 NUMBERS = {("dumper", "print_dump")}
 # answers no values, so that its theorem is of another form: utf8/proofs/CheckedText.antt
@@ -147,8 +148,8 @@ def theorems():
         stated = r"^ *pub (\S+)-refusals :(.*?)^ *(?:unfolding|\1-refusals)\b"
         for m in re.finditer(stated, code.read(path), re.M | re.S):
             told = re.search(r"(NumberedBy|Refusals s rec) (\w+|\((?:[^()]|\([^()]*\))*\))", m[2])
-            if told:  # else it is on a step inside a call
-                yield m[1].replace("-", "_"), (numbers(told[2]), told[1] != "NumberedBy")
+            assert told, f"{path}: {m[1]}-refusals has a form that is not known here"
+            yield m[1].replace("-", "_"), (numbers(told[2]), told[1] != "NumberedBy")
 
 
 def proved(known):
@@ -174,7 +175,7 @@ def told_numbers():
     yield pages.PROMISES, [int(m[1]) for m in map(re.compile(r"(\d+) [a-z]").match, parts) if m], EVERY
     text = code.read("include/thalluskin.h")
     header = re.findall(r"^ *THK_(\w+) = (\d+)\b", text, re.M)
-    yield "include/thalluskin.h", [int(n) for _, n in header], [0] + [n for n in EVERY if n != DUMPS]
+    yield "include/thalluskin.h", [int(n) for _, n in header], IN_HEADER
     words = re.findall(r'^ *case THK_(\w+):\n *return "(.*)";$', text, re.M)
     told = {row[0]: row[1] for t in tables for _, row in t.rows}
     yield "include/thalluskin.h, words", words, [(name, told.get(n, "not refused")) for name, n in header]

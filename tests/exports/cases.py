@@ -9,7 +9,7 @@ from fonts import make as fonts
 from pcf import tables
 from pcf.font_f import THREE, two_digits
 from pcf.numbers import BIG, TOP
-from pcf.rewriting import with_bytes
+from pcf.rewriting import with_bytes, with_own_format_bit
 from replay import calls, expected
 from replay import make as replay
 
@@ -290,7 +290,7 @@ def modes():
     for mode in (1, 2, 256, 2 ** 31, 2 ** 32 - 1):
         yield call("thk_vet", f, mode=mode)
         yield call("thk_vet", f[:100], mode=mode)
-        yield call("thk_vet", formats.own(f, 0, 0), mode=mode)
+        yield call("thk_vet", with_own_format_bit(f, 0, 0), mode=mode)
         for of_font in (rec, unfit):
             for code in (0x30, 0x32):
                 yield call("thk_glyph", f, of_font, code=code, mode=mode)
@@ -309,10 +309,8 @@ def modes():
 
 def two_formats():
     """fonts in which the two formats of a table differ, or agree though they are odd"""
-    for b in [*formats.one_bit(), *formats.together()]:
+    for b in [*formats.one_bit(), *formats.together(), *formats.alike()]:
         yield from readings(b)
-    for b in formats.alike():
-        yield call("thk_load_strict", b)
 
 
 def all_calls():

@@ -3,47 +3,37 @@ and vetting refuse the font (27)."""
 import functools
 import random
 
+import model
 from dump import make as dump
 from fonts import make as fonts
 from pcf.font_f import DIGITS, two_digits
+from pcf.numbers import word
 from pcf.reading import directory
-from pcf.rewriting import with_bytes, with_offset, with_size
-from pcf.tables import codes, font
+from pcf.rewriting import LAST_BIT, with_format_bit, with_offset, with_own_format_bit, with_size
 
-BITS = 32
-LAST_BIT = BITS - 1
+BITS = range(LAST_BIT + 1)
 
 
-def flipped(b, at, bit):
-    """one bit of the word at this place changed"""
-    return with_bytes(b, at + bit // 8, bytes([b[at + bit // 8] ^ 1 << bit % 8]))
-
-
-def own(b, entry, bit):
-    """one bit changed of the format word that the entry's table has itself"""
-    return flipped(b, directory(b)[entry][3], bit)
-
-
-def listed(b, entry, bit):
-    """and of the one that the directory has for it"""
-    return flipped(b, 8 + 16 * entry + 4, bit)
-
-
+@functools.lru_cache(maxsize=None)
 def kinds():
     """fonts whose formats agree: F, a big-endian one with codes of two bytes, one with 12-byte metrics, one with the
     lowest bit leftmost, and one with repeated and unknown tables"""
-    return [two_digits(), fonts.big_two_byte(), dump.one_glyph(2, 3, 1, 1, top=10, rows=b"\x40\xe0"),
+    made = [two_digits(), fonts.big_two_byte(), dump.one_glyph(2, 3, 1, 1, top=10, rows=b"\x40\xe0"),
             fonts.lowest_bit_left(), fonts.repeated()]
+    for b in made:
+        model.load(b, strict=True)  # else a bit changed might make the formats agree
+    return made
 
 
 @functools.lru_cache(maxsize=None)
 def one_bit():
-    """these with one bit changed: each bit of each table's own word, unknown tables' too, and in the last font each bit
-    of each of the directory's. They are in an order by lot, so that a share of them has some of every sort"""
-    made = [own(b, e, bit) for b in kinds() for e, (_, _, size, _) in enumerate(directory(b)) if size >= 4
-            for bit in range(BITS)]
-    last = kinds()[-1]
-    made += [listed(last, e, bit) for e in range(len(directory(last))) for bit in range(BITS)]
+    """these with one bit changed: each bit of each table's own word, unknown tables' too, and in the first and the last
+    font each bit of each of the directory's. They are in an order by lot, so that a share of them has some of every
+    sort"""
+    made = [with_own_format_bit(b, e, bit) for b in kinds() for e, (_, _, size, _) in enumerate(directory(b))
+            if size >= 4 for bit in BITS]
+    made += [with_format_bit(b, e, bit) for b in (kinds()[0], kinds()[-1]) for e in range(len(directory(b)))
+             for bit in BITS]
     random.Random(27).shuffle(made)
     return made
 
@@ -51,17 +41,22 @@ def one_bit():
 def alike():
     """F with one bit changed in both words of a table: they agree, whatever the bit means"""
     f = two_digits()
-    return [listed(own(f, e, bit), e, bit) for e in range(len(DIGITS)) for bit in range(BITS)]
+    return [with_format_bit(with_own_format_bit(f, e, bit), e, bit) for e in range(len(DIGITS)) for bit in BITS]
 
 
 def short(entry):
-    """F with a table that has fewer bytes than a format, just these, or one more, by its size or by the file's end"""
+    """F with a table of 0, 3, 4 or 5 bytes, by its size or by the file's end, where it is moved to; what it has of its
+    format is the directory's, or has another first bit. And with a table that starts past the file"""
     f = two_digits()
-    for b in (f, own(f, entry, LAST_BIT)):
+    for b in (f, with_own_format_bit(f, entry, 0)):
         for size in (0, 3, 4, 5):
             yield with_size(b, entry, size)
-        for offset in (len(f) - 4, len(f) - 3, len(f), len(f) + 1):
-            yield with_offset(b, entry, offset)
+    form, moved = directory(f)[entry][1], with_offset(f, entry, len(f))
+    yield moved
+    for own in (form, form ^ 1):
+        for size in (3, 4, 5):
+            yield moved + (word(own) + b"\0")[:size]
+    yield with_offset(f, entry, len(f) + 1)
 
 
 def together():
@@ -69,11 +64,12 @@ def together():
     f, entries = two_digits(), range(len(DIGITS))
     for e in entries:
         yield from short(e)
-        changed = own(f, e, LAST_BIT)
+        changed = with_own_format_bit(f, e, LAST_BIT)
         for other in entries:
             if other != e:
                 yield with_size(changed, other, 3)
             if other > e:
-                yield own(changed, other, 0)
-    yield own(font(DIGITS[:4] + [codes(0, (0x32, 0x31), (0, 0), 0x30, [0, 1])] + DIGITS[5:]), 4, LAST_BIT)
-    yield own(font(DIGITS[:5]), 0, LAST_BIT)
+                yield with_own_format_bit(changed, other, 0)
+    low_above_high, no_names = fonts.refusals()[6:]
+    yield with_own_format_bit(low_above_high, 4, LAST_BIT)
+    yield with_own_format_bit(no_names, 0, LAST_BIT)

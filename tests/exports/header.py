@@ -3,6 +3,7 @@ import os
 import re
 
 from common import ROOT, TESTS, read, run
+from documents.refusals import IN_HEADER
 from exports import layouts
 from exports.machine import ARCHIVE, fail, has, must
 from native import library
@@ -15,7 +16,6 @@ SERVED = ["thumbv7em-none-eabi", "thumbv6m-none-eabi", "riscv32-unknown-elf", "r
 # another order of bytes, and uint64_t at multiples of 4, with words of why the header is refused there
 NOT_SERVED = {"powerpc64-linux-gnu": "little-endian byte order", "i386-linux-gnu": "another layout than the archive's"}
 IN_C, IN_CPP = ["c99", "c11", "c17"], ["c++11", "c++17"]
-REFUSALS = [*range(20), 27]  # the numbers that the library's functions answer
 
 
 def c_refusals():
@@ -49,7 +49,7 @@ def declared(text):
     if stated != list(layouts.assertions()):
         fail("the header asserts another layout: %s" % sorted(set(stated) ^ set(layouts.assertions())))
     numbers = c_refusals()
-    if [n for _, n in numbers] != REFUSALS or sorted(c_words()) != REFUSALS:
+    if [n for _, n in numbers] != IN_HEADER or sorted(c_words()) != IN_HEADER:
         fail("the header's refusals are %s" % numbers)
     return len(structs), len(prototypes), len(stated)
 

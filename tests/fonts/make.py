@@ -90,7 +90,7 @@ def of_two_formats():
     """a table's format is not the directory's, as strict loading refuses it with 27; and what is tested before and
     after that. A name says what strict loading says"""
     f, top = two_digits(), 2 ** 31
-    low_above_high = refusals()[6]
+    low_above_high, no_names = refusals()[6:]
     empty_last = font(DIGITS[:5] + [names(0, [], b"")])
     after_4_bytes = len(empty_last) - 8  # of its last table
     twice = font(DIGITS + [names(0, [0, 2], b"a\0b\0")])
@@ -98,6 +98,8 @@ def of_two_formats():
     made = {"refused_27_type_%d" % kind: with_format(f, k, form ^ BIG) for k, (kind, form, _) in enumerate(DIGITS)}
     made.update({
         "refused_27_type_256": with_format(of_256, 1, BIG),
+        # the accelerators' numbers are big-endian, as the directory says, and are read as little-endian ones
+        "refused_27_wild_bounds": with_own_format(big_two_byte(), 1, 0),
         "refused_27_top_bit_of_the_directory": with_format(f, 1, top),
         "refused_27_top_bit_of_the_table": with_own_format(f, 4, top),
         "top_bit_of_both": with_own_format(with_format(f, 1, top), 1, top),
@@ -109,9 +111,10 @@ def of_two_formats():
         "refused_06_in_4_bytes_of_table": with_size(f, 4, 4),
         "refused_06_in_3_bytes_of_file": with_format(empty_last, 5, BIG)[:after_4_bytes - 1],
         "refused_27_in_4_bytes_of_file": with_format(empty_last, 5, BIG)[:after_4_bytes],
+        "refused_06_in_4_bytes_of_file": empty_last[:after_4_bytes],
         "refused_27_before_06": with_size(with_format(f, 1, BIG), 1, 47),
         "refused_27_before_07": with_format(low_above_high, 4, BIG),
-        "refused_27_before_08": with_format(font(DIGITS[:5]), 4, BIG),
+        "refused_27_before_08": with_format(no_names, 4, BIG),
         "refused_27_before_a_later_05": with_offset(with_format(f, 0, BIG), 5, len(f) + 1),
         "refused_27_before_a_later_27": with_format(with_format(f, 5, BIG), 2, 0),
         "refused_05_before_27": with_offset(with_format(f, 3, 0), 3, len(f) + 1),

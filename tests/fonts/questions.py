@@ -30,22 +30,23 @@ def broken(end):
 
 
 def loaded(font):
-    """its record, None if it does not load"""
+    """a font's record, None if it does not load"""
     try:
         return model.load(font)
     except model.Refused:
         return None
 
 
-def loadings(font):
-    """of a font that does not load that is told before any question"""
-    return [asks("load_pcf")] * (loaded(font) is not None) + [asks("load_strict")]
+def loadings(rec):
+    """both ways to load a font with this record; strict loading alone where there is none, since the program tells that
+    a font does not load before it is asked anything"""
+    return [asks("load_pcf")] * (rec is not None) + [asks("load_strict")]
 
 
 def questions(font):
-    """but for the loadings none of a font that does not load"""
-    yield from loadings(font)
+    """of a font that does not load the loadings alone"""
     rec = loaded(font)
+    yield from loadings(rec)
     if rec is None:
         return
     found = [code for code in range(65536) if model.lookup(font, rec, code) is not None]
@@ -67,4 +68,4 @@ def questions(font):
 def topics():
     """a file's name, and its fonts with their calls"""
     yield "fonts", [(font, list(questions(font))) for font in make.files().values()]
-    yield "fonts_of_two_formats", [(font, loadings(font)) for font in make.of_two_formats().values()]
+    yield "fonts_of_two_formats", [(font, loadings(loaded(font))) for font in make.of_two_formats().values()]

@@ -1,7 +1,9 @@
 //! Where 000 and the port may differ: one predicate for each way. A predicate looks at the font and the arguments, not
 //! at the answers; compare.rs and texts.rs say what has to hold where it applies.
 use crate::orders;
-use crate::reading::{self, has_bitmap, last_bytes, rows_drawn, u16_at, u32_at, Drawing, Slot};
+use crate::reading::{
+    self, directory_entry, has_bitmap, is_known, last_bytes, rows_drawn, u16_at, u32_at, Drawing, Slot,
+};
 use crate::sides::Pair;
 use crate::structs::{Metrics, Record};
 
@@ -53,11 +55,6 @@ impl Departure {
 
 // ---- loading
 
-/// a type of table that is read
-pub fn is_known(kind: u32) -> bool {
-    matches!(kind, 1 | 2 | 4 | 8 | 32 | 128 | 256)
-}
-
 /// All that applies to a font's loading, each with the number of its directory entry.
 pub fn of_loading(b: &[u8]) -> Vec<(Departure, usize)> {
     let mut found = Vec::new();
@@ -72,7 +69,7 @@ pub fn of_loading(b: &[u8]) -> Vec<(Departure, usize)> {
         return found;
     }
     for e in 0..count {
-        let [kind, form, size, offset] = [0, 4, 8, 12].map(|k| u32_at(b, 8 + 16 * e + k, false));
+        let [kind, form, size, offset] = directory_entry(b, e);
         let Some(from) = b.get(offset as usize..) else { break };
         let table = &from[..from.len().min(size as usize)];
         if is_known(kind) && offset % 4 != 0 {
@@ -101,16 +98,16 @@ pub fn may_refuse(b: &[u8], number: u32, place: usize) -> bool {
     if header != 0 || number < 5 {
         return (number, place) == (header, 0);
     }
-    let entry = |e: usize| [0, 12].map(|k| u32_at(b, 8 + 16 * e + k, false));
-    let within = |e: usize| entry(e)[1] as usize <= b.len();
-    let kinds = |known: &[u32]| (0..count()).any(|e| known.contains(&entry(e)[0]));
+    let kind = |e: usize| directory_entry(b, e)[0];
+    let within = |e: usize| directory_entry(b, e)[3] as usize <= b.len();
+    let kinds = |known: &[u32]| (0..count()).any(|e| known.contains(&kind(e)));
     let complete = [&[1][..], &[2, 256], &[4], &[8], &[32], &[128]].into_iter().all(kinds);
     match number {
         8 => place == 0 && (0..count()).all(within) && !complete,
         _ if place >= count() || !(0..place).all(within) => false,
         5 => !within(place),
-        6 => within(place) && is_known(entry(place)[0]),
-        7 => within(place) && entry(place)[0] == 32,
+        6 => within(place) && is_known(kind(place)),
+        7 => within(place) && kind(place) == 32,
         _ => false,
     }
 }

@@ -83,6 +83,10 @@ fn main() {
         println!("oracle: too few fonts were loaded strictly, or refused");
         exit(1);
     }
+    if tally.refused_27_and_copies().iter().any(|&fonts| fonts < 1000) {
+        println!("oracle: too few fonts of two formats were vetted, or too few of them with formats that agree");
+        exit(1);
+    }
     for name in tally.never_used() {
         println!("oracle: no input for departure {name}");
         exit(1);

@@ -27,6 +27,18 @@ pub fn part(b: &[u8], from: u64, to: u64) -> &[u8] {
     &b[from as usize..to as usize]
 }
 
+// ---- the directory
+
+/// type, format, size and offset
+pub fn directory_entry(b: &[u8], e: usize) -> [u32; 4] {
+    [0, 4, 8, 12].map(|k| u32_at(b, 8 + 16 * e + k, false))
+}
+
+/// a type of table that is read
+pub fn is_known(kind: u32) -> bool {
+    matches!(kind, 1 | 2 | 4 | 8 | 32 | 128 | 256)
+}
+
 // ---- codes
 
 pub fn is_char_mode(rec: &Record) -> bool {

@@ -1,11 +1,11 @@
 //! Strict loading, which 000 does not have: what it has to answer is told by the tolerant load, which 000 is compared
 //! with, and by the two formats of each table, read once more.
+use crate::calls;
 use crate::compare::{hold, Verdict};
 use crate::fonts::word;
-use crate::reading::u32_at;
-use crate::structs::FontAnswer;
+use crate::reading::{directory_entry, is_known, u32_at};
+use crate::structs::{FontAnswer, Record};
 use crate::tally::Tally;
-use crate::{calls, departures};
 use std::ops::Range;
 
 const METRICS: u32 = 4;
@@ -21,11 +21,10 @@ struct Known {
 impl Known {
     /// none of an unknown table, or of one that begins past the file
     fn of(b: &[u8], entry: usize) -> Option<Known> {
-        let at = 8 + 16 * entry;
-        let [kind, form, size, offset] = [0, 4, 8, 12].map(|k| u32_at(b, at + k, false));
-        let known = departures::is_known(kind) && offset as usize <= b.len();
+        let [kind, form, size, offset] = directory_entry(b, entry);
+        let known = is_known(kind) && offset as usize <= b.len();
         let end = b.len().min(offset as usize + size as usize);
-        known.then(|| Known { kind, form, at: at + 4, bytes: offset as usize..end })
+        known.then(|| Known { kind, form, at: 8 + 16 * entry + 4, bytes: offset as usize..end })
     }
 
     /// its own format, where it has the four bytes, if that is not the directory's
@@ -54,12 +53,18 @@ fn expected(b: &[u8], tolerant: &FontAnswer) -> (u32, u64) {
     two_formats.map_or((tolerant.refusal, tolerant.place), |entry| (27, entry))
 }
 
+/// the record of a refusal: each number 0, each bool false
+fn no_record() -> Record {
+    // SAFETY: it is made of integers and bools, and all bits 0 are one of their values
+    unsafe { std::mem::zeroed() }
+}
+
 pub fn compare(b: &[u8], tolerant: &FontAnswer, tally: &mut Tally) -> Verdict {
     let (strict, expected) = (calls::load_strict(b), expected(b, tolerant));
     tally.strict(expected.0);
     let said = format!("strict loading answers {} at {}", strict.refusal, strict.place);
     hold((strict.refusal, strict.place) == expected, &format!("{said}, by the two formats it is {expected:?}"))?;
-    let rec = if strict.refusal == 27 { calls::load(&[]).rec } else { tolerant.rec };
+    let rec = if strict.refusal == 27 { no_record() } else { tolerant.rec };
     hold(strict.rec == rec, "strict loading gives another record")
 }
 

@@ -11,7 +11,8 @@ pub struct Tally {
     kinds: BTreeMap<(usize, usize), u64>,
     used: BTreeMap<usize, u64>,
     coloured: BTreeMap<usize, u64>,
-    vetted: BTreeMap<u32, u64>,
+    /// by what vetting answers, fonts; and of those refused 27 the copies with formats that agree
+    vetted: [BTreeMap<u32, u64>; 2],
     /// fonts by what strict loading answers: the record, a refusal of loading, 27
     strict: [u64; 3],
     /// drawings of rows in another order that 000 was given in the usual one, and those of them with pixels coloured
@@ -23,6 +24,12 @@ pub struct Tally {
     /// with the reason
     pub not_compared: BTreeMap<&'static str, u64>,
     families: Vec<(String, u64, u64)>,
+}
+
+fn passed_and_refused(vetted: &BTreeMap<u32, u64>) -> String {
+    let refused: Vec<String> =
+        vetted.iter().filter(|(&n, _)| n != 0).map(|(n, count)| format!("{n}: {count}")).collect();
+    format!("{} pass and others are refused ({})", vetted.get(&0).unwrap_or(&0), refused.join(", "))
 }
 
 impl Tally {
@@ -37,8 +44,13 @@ impl Tally {
     }
 
     /// with this number, or 0
-    pub fn vetted(&mut self, number: u32) {
-        *self.vetted.entry(number).or_default() += 1;
+    pub fn vetted(&mut self, number: u32, copy: bool) {
+        *self.vetted[usize::from(copy)].entry(number).or_default() += 1;
+    }
+
+    /// fonts in vetting, and copies of them with formats that agree
+    pub fn refused_27_and_copies(&self) -> [u64; 2] {
+        [self.vetted[0].get(&27).copied().unwrap_or(0), self.vetted[1].values().sum()]
     }
 
     /// with this number, or 0
@@ -112,13 +124,10 @@ impl Tally {
             "strict loading: {loaded} fonts with the record of loading, {refused} with its refusal, {differing} \
              refused 27 at the first table whose own format is not the directory's"
         );
-        let refused: Vec<String> =
-            self.vetted.iter().filter(|(&n, _)| n != 0).map(|(n, count)| format!("{n}: {count}")).collect();
-        let passed = self.vetted.get(&0).unwrap_or(&0);
-        println!(
-            "vetting: {passed} fonts pass and others are refused ({}), as 000's answers and the two formats tell",
-            refused.join(", ")
-        );
+        let [fonts, copies] = self.vetted.each_ref().map(passed_and_refused);
+        println!("vetting: of the fonts {fonts}, as 000's answers and the two formats tell");
+        let [_, count] = self.refused_27_and_copies();
+        println!("of those refused 27, {count} vetted once more with formats that agree: {copies}");
         println!("arguments outside the limits: {} calls of the port, each refused 15", self.outside);
         println!("UTF-8: {} calls of the port agree with Rust's own decoder", self.utf8);
     }

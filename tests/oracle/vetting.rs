@@ -13,6 +13,8 @@ use crate::structs::PLAIN;
 use crate::tally::Tally;
 
 const MOST_PIXELS: usize = 1 << 20;
+/// why a font of two formats is not vetted once more
+const SHARED: &str = "a format word to change for vetting stands in another table, or in the directory, too";
 
 /// the refusal's number and place, 0 and 0 where the font passes; None where it takes too large a page to tell
 fn expected(pair: &Pair) -> Option<(u32, u64)> {
@@ -83,29 +85,29 @@ pub fn compare(pair: &Pair, tally: &mut Tally) -> Verdict {
     if orders::other(&pair.rec) && pair.given != Given::UsualRows {
         return Ok(()); // 000 draws nothing of it; it is asked again with the rows in the usual order
     }
-    let Some(entry) = strict::differing(pair.ours) else { return as_000_tells(pair, pair.ours, tally) };
-    tally.vetted(27);
+    let Some(entry) = strict::differing(pair.ours) else { return as_000_tells(pair, None, tally) };
+    tally.vetted(27, false);
     let our = calls::vet(pair.ours, PLAIN);
     let said = format!("vetting answers {} at {}", our.refusal, our.place);
     hold((our.refusal, our.place) == (27, entry), &format!("{said}, by the two formats it is 27 at {entry}"))?;
     match strict::agreeing(pair.ours) {
-        Some(made) => as_000_tells(pair, &made, tally),
+        Some(copy) => as_000_tells(pair, Some(&copy), tally),
         None => {
-            tally.not_compared("a format word that could be changed for vetting stands in another table too");
+            tally.not_compared(SHARED);
             Ok(())
         }
     }
 }
 
-/// vetting the pair's font, which may be given with formats that agree
-fn as_000_tells(pair: &Pair, ours: &[u8], tally: &mut Tally) -> Verdict {
-    let our = calls::vet(ours, PLAIN);
+/// vetting the pair's font, or a copy of it with formats that agree
+fn as_000_tells(pair: &Pair, copy: Option<&[u8]>, tally: &mut Tally) -> Verdict {
+    let our = calls::vet(copy.unwrap_or(pair.ours), PLAIN);
     let of_a_surrogate = our.refusal >= 10 && (0xD800..=0xDFFF).contains(&our.place);
     let Some(expected) = expected(pair).filter(|_| !of_a_surrogate) else {
         tally.not_compared("000 cannot be asked for what decides in vetting");
         return Ok(());
     };
-    tally.vetted(expected.0);
+    tally.vetted(expected.0, copy.is_some());
     let said = format!("vetting answers {} at {}", our.refusal, our.place);
     hold((our.refusal, our.place) == expected, &format!("{said}, by 000's answers it is {expected:?}"))?;
     hold(our.refusal != 0 || our.rec == pair.rec, "vetting gives another record than loading")

@@ -3,6 +3,8 @@ from pcf import orders, reading
 from pcf.numbers import BIG, COMPRESSED, word
 from pcf.tables import BITMAPS, METRICS, PADS, bitmaps, font, row_stride
 
+LAST_BIT = 31  # of a format word; it means nothing
+
 
 def with_bytes(b, at, new):
     return b[:at] + new + b[at + len(new):]
@@ -25,6 +27,17 @@ def with_format(b, number, form):
 def with_own_format(b, number, form):
     """the format that the table itself has"""
     return with_bytes(b, reading.directory(b)[number][3], word(form))
+
+
+def with_format_bit(b, number, bit):
+    """one bit changed of the format in the directory"""
+    return with_format(b, number, reading.directory(b)[number][1] ^ 1 << bit)
+
+
+def with_own_format_bit(b, number, bit):
+    """and of the one that the table itself has"""
+    form, _ = reading.own_format(b[reading.directory(b)[number][3]:])
+    return with_own_format(b, number, form ^ 1 << bit)
 
 
 def askew(table, bits=BIG):

@@ -1,6 +1,7 @@
 /* Reads fonts with FreeType and with the library, and compares all that both answer: properties, accelerators, the
  * glyph of every code, metrics, bitmaps, characters and texts drawn, vetting. FreeType does not read the names of
- * glyphs; those that are given with a font are compared. A font that both read has to load strictly too.
+ * glyphs; those that are given with a font are compared. A font that both read has to load strictly too, and
+ * not with a bit of a table's own format changed.
  *
  * Standard input has for each font three lengths, eight bytes each as the machine has them, then the font's name, its
  * bytes, and lines of a code and its glyph's name. Standard output has the first differences, for each vetted font a
@@ -59,7 +60,7 @@ static void codes(struct font *f)
         text(f, line, n);
 }
 
-static void font(FT_Library library, const char *name, const uint8_t *bytes, size_t len, char *lines)
+static void font(FT_Library library, const char *name, uint8_t *bytes, size_t len, char *lines)
 {
     thk_font_answer ours = thk_load(bytes, len);
     struct font f = {name, bytes, len, ours.rec, NULL, THK_DONE, 0, {LONG_MAX, LONG_MAX, LONG_MAX, LONG_MAX, LONG_MAX},
@@ -80,6 +81,7 @@ static void font(FT_Library library, const char *name, const uint8_t *bytes, siz
     count.padded_to_8 += f.rec.bitmaps.pad == 8;
     count.usual += f.rec.bitmaps.unit == 0 && f.rec.bitmaps.top;
     strict_loading(&f);
+    two_formats(&f);
     accelerators(&f);
     for (k = 0; k < f.rec.props.count; k++)
         property(&f, k);
@@ -126,7 +128,7 @@ int main(void)
     while (get(lens, sizeof lens)) {
         char *name = part(lens[0]), *bytes = part(lens[1]), *lines = part(lens[2]);
 
-        font(library, name, (const uint8_t *)bytes, lens[1], lines);
+        font(library, name, (uint8_t *)bytes, lens[1], lines);
         free(name);
         free(bytes);
         free(lines);

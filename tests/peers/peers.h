@@ -27,7 +27,7 @@ struct extremes {
 
 struct font {
     const char *name;
-    const uint8_t *bytes;
+    uint8_t *bytes;
     size_t len;
     thk_record rec;
     FT_Face face;
@@ -41,10 +41,10 @@ struct font {
 #define FONT(f) (f)->bytes, (f)->len, &(f)->rec
 
 #define COUNTED(C)                                                                                                     \
-    C(fonts) C(neither) C(strictly) C(long_metrics) C(padded_to_8) C(usual) C(bounds) C(vetted) C(refused_11)          \
-    C(refused_13) C(refused_14) C(numbers) C(strings) C(repeated) C(with_glyph) C(without_glyph) C(metrics) C(bitmaps) \
-    C(empty) C(not_drawn) C(defaults) C(no_default) C(characters) C(cut) C(wider) C(out_of_range) C(other_rows)        \
-    C(texts) C(letters) C(names) C(differences)
+    C(fonts) C(neither) C(strictly) C(two_formats) C(long_metrics) C(padded_to_8) C(usual) C(bounds) C(vetted)         \
+    C(refused_11) C(refused_13) C(refused_14) C(numbers) C(strings) C(repeated) C(with_glyph) C(without_glyph)         \
+    C(metrics) C(bitmaps) C(empty) C(not_drawn) C(defaults) C(no_default) C(characters) C(cut) C(wider)                \
+    C(out_of_range) C(other_rows) C(texts) C(letters) C(names) C(differences)
 
 #define FIELD(name) unsigned long name;
 extern struct counts {
@@ -96,8 +96,11 @@ void names(const struct font *f, char *lines);
 
 /* ---- strict.c */
 
-/* Whether the font loads strictly, with the record that loading gave. */
+/* Counts a font that loads strictly with the record that loading gave. */
 void strict_loading(const struct font *f);
+
+/* Counts the known tables over which the font is refused if one bit of the table's own format is changed. */
+void two_formats(const struct font *f);
 
 /* ---- glyphs.c */
 

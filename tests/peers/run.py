@@ -2,7 +2,7 @@
 """Reads every font of Debian's xfonts-base, xfonts-terminus and xfonts-unifont with the library and with FreeType, and
 compares all that both answer (peers.c). FreeType does not read the names of glyphs: those are compared with the ones
 that pcf2bdf writes. Each of these fonts, and of those that follow, has to load strictly, with the record that it loads
-with.
+with, and to be refused 27 for each known table, if a bit of that table's own format is changed.
 
 All those fonts have one format. So bdftopcf writes each a second time, by turns in every format that it can: row pad,
 bit order, byte order and scan unit; the tests' own writer then pads some rows to 8 bytes. One in four has a last glyph
@@ -43,6 +43,7 @@ from pcf.rewriting import bitmap_format, by_box, reordered, with_bitmap_format  
 
 FONTS = ["xfonts-base", "xfonts-terminus", "xfonts-unifont"]
 HEADERS = "/usr/include/freetype2"
+KINDS = 6  # of known tables, which a font has at least once each
 
 # bdftopcf's options: row pad, bit order, byte order, scan unit
 FORMATS = ["-p%d -%s -%s -u%d" % (pad, bits, order, unit)
@@ -225,7 +226,8 @@ def compared(program, folder, given):
 
 REPORT = """\
 peers: {fonts} {what} read by both, {neither} by neither
-    {strictly} load strictly, each with the record that loading gives
+    {strictly} load strictly, each with the record that loading gives; strict loading and vetting refuse {two_formats} \
+with a bit of one table's own format changed, at the table's entry
     {long_metrics} have metrics of 12 bytes, {padded_to_8} rows padded to 8, {usual} one-byte units with the top bit \
 leftmost
     vetting passes {vetted}, refuses 11 {refused_11}, 13 {refused_13}, 14 {refused_14}; as FreeType's metrics and the \
@@ -243,12 +245,15 @@ their columns past the box not compared
     differences: {differences}"""
 
 
-def report(what, count):
+def report(what, count, given):
+    """what was counted of so many fonts given"""
     for name in ("fonts", "bounds", "vetted", "numbers", "strings", "with_glyph", "bitmaps", "characters", "texts"):
         if count[name] == 0:
             fail("%s: nothing was compared, %s" % (what, count))
-    if count["strictly"] != count["fonts"]:
-        fail("%s: %d of %d load strictly" % (what, count["strictly"], count["fonts"]))
+    if count["strictly"] != given:
+        fail("%s: %d of %d load strictly" % (what, count["strictly"], given))
+    if count["two_formats"] < KINDS * given:
+        fail("%s: a bit was changed in %d tables of %d fonts" % (what, count["two_formats"], given))
     print(REPORT.format(what=what, **count))
 
 
@@ -289,7 +294,7 @@ def compare_orders(program, folder, paths):
         print("peers: not there to be written in every order: %s" % ", ".join(absent))
     if there:
         count, dumps = compared(program, folder, in_every_order(paths, folder))
-        report("fonts (%d, each in every order)" % len(there), count)
+        report("fonts (%d, each in every order)" % len(there), count, len(there) * len(ORDERS))
         checked_dumps(dumps, there)
 
 
@@ -306,10 +311,10 @@ def main():
         if lacks:
             print("peers: without %s, not to be had here" % ", ".join(lacks))
         packages = ", ".join(package for package in FONTS if package not in lacks)
-        report("fonts of " + packages, compared(program, folder, as_is(paths, folder, lacks))[0])
+        report("fonts of " + packages, compared(program, folder, as_is(paths, folder, lacks))[0], len(paths))
         if not {"pcf2bdf", "xfonts-utils"} & set(lacks):
             count, _ = compared(program, folder, rewritten(paths, folder))
-            report("fonts rewritten by bdftopcf in %d formats" % len(TURNS), count)
+            report("fonts rewritten by bdftopcf in %d formats" % len(TURNS), count, len(paths))
             checked_formats(count, len(paths))
             compare_orders(program, folder, paths)
     print("peers: %d seconds" % (time.monotonic() - begun))

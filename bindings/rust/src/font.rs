@@ -126,7 +126,8 @@ impl<'a> Font<'a> {
 
     /// A font that loads strictly and of which no code's glyph is ever refused for the font's sake: in such a font a
     /// text is refused only for itself (19), for another argument (15), or because a pixel to colour lies beyond the
-    /// buffer (16).
+    /// buffer (16). A font that [`Font::load`] takes and that is refused 27 here is to be made anew from its source, as
+    /// by bdftopcf; until then the one that is loaded serves every call, without that promise.
     /// Refused as [`Font::load_strict`]; 13; 11 of the bounds; 18 of a property; code by code 10, 11, 12, 14, 17, 18.
     ///
     /// ```

@@ -38,8 +38,8 @@ fn damaged_fonts() {
     }
 }
 
-// F with one byte of a table's own format, or of its directory entry's, changed: F loads as it did where that word does
-// not count, and strictly not at all.
+// F with a bit changed that means nothing, in one byte of a table's own format or of its directory entry's: F loads as
+// it did but for the accelerators' format, and strictly not at all.
 #[test]
 fn two_formats() {
     let refused = |font: Result<Font, Refusal>| font.map(|_| ()).unwrap_err();
