@@ -52,7 +52,7 @@ EDITS = {
         inserted(READING, "call void @thalluskin_lent_load(ptr %a0, ptr %a0, i64 16)"),
         inserted(READING, "br label %x ; store i8 0, ptr %a0, align 1"),
         inserted(READING, '%x = call i8 @"reads::byte_at"(ptr %a0i64 1, i64 1)'),
-        lambda text: text.replace('@"load::load_pcf"', '@"__aeabi_uldivmod"'),
+        lambda text: text.replace('@"load::load_in"', '@"__aeabi_uldivmod"'),
         lambda text: text.replace("e-m:e-p270", "E-m:e-p270"),
         lambda text: text.replace('"reads::wide"', '"reads::byte_at"'),
         replaced(r'("reads::wide"\(i8 noundef %a0\)) #0', r"\1 #9"),
