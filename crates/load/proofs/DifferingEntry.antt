@@ -1,5 +1,5 @@
 -- An entry of the directory in strict loading: the test of its format, as plain logic says it, and what comes of it.
-use Prim.Native.Nat.{ℕ, _+_, _≤_, _<_, min}
+use Prim.Native.Nat.{ℕ, _+_, _≤_, _<_}
 use mathlib.Core.Path.{_≡_, refl}
 use mathlib.Core.Bool.{Bool, true, false, not, _&&_}
 use mathlib.Core.List.{List}
@@ -9,7 +9,7 @@ use lib.Dec.{leb, eqb}
 use borrow.Author.Tests.{le-leb, leb-true, le-ltb, eqb-false, ne-eqb}
 use Rattle.reads.proofs.Tests.{never, split, both}
 use Rattle.tables.specs.Format.{formatAt}
-use Rattle.load.specs.Load.{knownType, formatDiffers, tableIn, entryOf, entryKind, entryFormat, entrySize, entryOffset, entryAt, directoryCount}
+use Rattle.load.specs.Load.{knownType, formatDiffers, tableIn, entryOf, entryKind, entryFormat, entryOffset, entryEnd, entryAt, directoryCount}
 use Rattle.load.specs.Formats.{Differs}
 use Rattle.load.specs.declared.Gathered.{Gathered}
 use Rattle.load.specs.declared.Entered.{Entered}
@@ -17,16 +17,16 @@ use Rattle.load.specs.declared.Entered.{Entered}
 module _ (s : List ℕ) where
   -- what strict loading asks of entry number k
   abbrev pub differs : ℕ → Bool
-  differs k = formatDiffers s (entryKind s k) (entryFormat s k) (entryOffset s k) (min (entryOffset s k + entrySize s k) (length s))
+  differs k = formatDiffers s (entryKind s k) (entryFormat s k) (entryOffset s k) (entryEnd s k)
 
   -- its tests: the type, the word's place, the word
   tests : (k : ℕ) → differs k ≡ true
-      → (knownType (entryKind s k) ≡ true) × (entryOffset s k + 4 ≤ min (entryOffset s k + entrySize s k) (length s))
+      → (knownType (entryKind s k) ≡ true) × (entryOffset s k + 4 ≤ entryEnd s k)
       × (formatAt s (entryOffset s k) ≡ entryFormat s k → ⊥)
   unfolding formatDiffers
   tests k e =
       let at = entryOffset s k in
-      let end = min (at + entrySize s k) (length s) in
+      let end = entryEnd s k in
       let word = eqb (formatAt s at) (entryFormat s k) in
       let (held, other) = both (knownType (entryKind s k) && leb (at + 4) end) (not word) e in
       let (known, there) = both (knownType (entryKind s k)) (leb (at + 4) end) held in
@@ -42,7 +42,7 @@ module _ (s : List ℕ) where
   unfolding formatDiffers
   is-differs k d =
       let at = entryOffset s k in
-      let end = min (at + entrySize s k) (length s) in
+      let end = entryEnd s k in
       rw (d .known, le-leb (at + 4) end (omega (arith, d .sized, d .in-file)), ne-eqb (formatAt s at) (entryFormat s k) (d .other)) refl
 
   -- where it passes, the entry is as in tolerant loading

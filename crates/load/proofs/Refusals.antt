@@ -1,5 +1,5 @@
 -- The numbers that loading refuses with: those of its tables, of its entries, and its own.
-use Prim.Native.Nat.{ℕ, zero, suc, _+_, _*_, min}
+use Prim.Native.Nat.{ℕ, zero, suc, _+_, _*_}
 use mathlib.Core.Path.{_≡_, refl, subst}
 use mathlib.Core.Bool.{Bool, true, false, not, _||_}
 use mathlib.Core.List.{List, [], _∷_}
@@ -14,7 +14,7 @@ use Rattle.tables.specs.declared.TableRead.{TableRead}
 use Rattle.tables.proofs.Refusals.{properties-at-refusals, accelerators-at-refusals, metrics-at-refusals}
 use Rattle.tables.proofs.Refusals.{bitmaps-at-refusals, codes-at-refusals, names-at-refusals}
 use Rattle.load.specs.Gather.{nothing, added, allSix, finished}
-use Rattle.load.specs.Load.{tableAt, formatDiffers, tableIn, entryOf, entryKind, entryFormat, entrySize, entryOffset, entryAt, afterEntry, entriesFrom}
+use Rattle.load.specs.Load.{tableAt, formatDiffers, tableIn, entryOf, entryKind, entryFormat, entryOffset, entryEnd, entryAt, afterEntry, entriesFrom}
 use Rattle.load.specs.Load.{directoryCount, loadedIn, loaded, loadedStrictly, ofLoading, ofStrictLoading, saidLoaded}
 use Rattle.load.specs.declared.Gathered.{Gathered}
 use Rattle.load.specs.declared.Entered.{Entered}
@@ -55,7 +55,7 @@ module _ (strict : Bool) (es : List ℕ) (s : List ℕ) (five : elem 5 es ≡ tr
     unfolding entryAt entryOf
     entry-numbered k g =
         let at = entryOffset s k in
-        let end = min (at + entrySize s k) (length s) in
+        let end = entryEnd s k in
         let table = tableIn strict s (entryKind s k) (entryFormat s k) at end in
         either (EntryBy es) (ltb (length s) at) five (added-numbered es g table (tables (entryKind s k) (entryFormat s k) at end))
 

@@ -2,7 +2,7 @@
 use mathlib.Core.Path.{_≡_, refl, subst}
 use mathlib.Core.Bool.{Bool, true, not, _&&_}
 use mathlib.Core.List.{List}
-use Prim.Native.Nat.{ℕ, zero, suc, _+_, _*_, _≤_, min}
+use Prim.Native.Nat.{ℕ, zero, suc, _+_, _*_, _≤_}
 use native.Mathlib.Omega.{arith}
 use lib.ListN.{length}
 use lib.Dec.{ltb, eqb}
@@ -13,7 +13,7 @@ use Rattle.load.specs.declared.Gathered.{Gathered}
 use Rattle.load.specs.declared.Entered.{Entered}
 use Rattle.load.specs.declared.Loaded.{Loaded}
 use Rattle.load.specs.Gather.{nothing, added, allSix, finished}
-use Rattle.load.specs.Load.{formatDiffers, tableIn, entryOf, entryKind, entryFormat, entrySize, entryOffset, entryAt, afterEntry, entriesFrom}
+use Rattle.load.specs.Load.{formatDiffers, tableIn, entryOf, entryKind, entryFormat, entryOffset, entryEnd, entryAt, afterEntry, entriesFrom}
 use Rattle.load.specs.Load.{directoryCount, loadedIn}
 use Rattle.tables.specs.declared.TableRead.{TableRead}
 use Rattle.tables.specs.declared.Record.{Record}
@@ -51,7 +51,7 @@ entry-fits : (strict : Bool) (s : List ℕ) (g : Gathered) → Fitting (length s
 unfolding entryAt entryOf
 entry-fits strict s g f k =
     let at = entryOffset s k in
-    let end = min (at + entrySize s k) (length s) in
+    let end = entryEnd s k in
     let table = tableIn strict s (entryKind s k) (entryFormat s k) at end in
     either (EnteredFits (length s)) (ltb (length s) at) tt
     (added-fits (length s) g f table (table-fits strict s (entryKind s k) (entryFormat s k) at end (omega arith)))

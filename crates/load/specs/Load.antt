@@ -70,6 +70,10 @@ entrySize s k = u32At false s (8 + 16 * k + 8)
 abbrev pub entryOffset : List ℕ → ℕ → ℕ
 entryOffset s k = u32At false s (8 + 16 * k + 12)
 
+-- where its table's bytes end
+abbrev pub entryEnd : List ℕ → ℕ → ℕ
+entryEnd s k = min (entryOffset s k + entrySize s k) (length s)
+
 -- what entry number k makes of what those before it gave
 unfoldable pub entryAt : Bool → List ℕ → ℕ → Gathered → Entered
 entryAt strict s k g = entryOf strict s g (entryKind s k) (entryFormat s k) (entrySize s k) (entryOffset s k)

@@ -111,7 +111,7 @@ fn format_refused(s: &[u8], strict: bool, kind: u32, format: u32, at: u32, end: 
     false
 }
 
-// The same table in strict loading or not: 27 where its format is refused, before all else.
+// The table of an entry, in strict loading or not: 27 where its format is refused, before its own tests.
 fn table_in(s: &[u8], strict: bool, kind: u32, format: u32, at: u32, end: usize) -> TableRead
     ensures { λ r. ⌜ r ≡ tableIn strict (now (s .entry)) kind format at end ⌝ }
 {
