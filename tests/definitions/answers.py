@@ -9,9 +9,14 @@ def text_of(c):
     return (c["text"] + piece * times).encode("latin-1")
 
 
+def lent(c):
+    """the buffer that a case lends, None where it lends none: `why` is told a length and lent no buffer"""
+    return [OLD] * c["len"] if "len" in c and c["call"] != "why" else None
+
+
 def ask(call, font, rec, c):
     """(values, new buffer or None) of a call that is not refused"""
-    old = [OLD] * c.get("len", 0)
+    old = lent(c)
     place = [old] + [c[k] for k in ("start", "stride", "scale") if k in c]
     if call == "load":
         return model.flat_record(model.load(font)), None
@@ -46,6 +51,8 @@ def ask(call, font, rec, c):
     if call == "draw_char":
         (info, drawn, dropped), new = model.draw_char(font, rec, c["code"], *place, COLOUR)
         return model.flat_info(info) + [drawn, dropped], new
+    if call == "why":
+        return model.why(font, rec, c["code"], c["len"], c["start"], c["stride"], c["scale"]), None
     if call == "draw_string":
         return model.draw_string(font, rec, text_of(c), old, c["start"], c["wrap"], c["stride"], c["scale"], COLOUR)
     if call == "unpack_glyph":
@@ -77,6 +84,6 @@ def answer(font, rec, c):
     try:
         values, new = ask(c["call"], font, rec, c)
     except model.Refused as e:
-        number, place, values, new = e.number, e.place, [], [OLD] * c["len"] if "len" in c else None
+        number, place, values, new = e.number, e.place, [], lent(c)
     left = [] if new is None else [n for i, x in enumerate(new) if x != OLD for n in (i, x)] + [len(new)]
     return number, place, [int(v) for v in values], left

@@ -32,7 +32,7 @@ from documents.refusals import Orders  # noqa: E402
 # calls that the page has under another name, and those that answer as another call does
 NAMED = {"load": "load_pcf", "utf8_step": "step_at", "dump": "print_dump"}
 DRY_RUNS = ("bitmap_check", "glyph_check", "char_check", "unpack_check", "text_check")
-TOPS = ("text", "frames")  # the cases call definitions of these libraries and of those that they stand on
+TOPS = ("text", "why", "frames")  # the cases call definitions of these libraries and of those that they stand on
 CRATES = 4  # of cases; the prover takes them side by side
 
 
@@ -41,7 +41,7 @@ CRATES = 4  # of cases; the prover takes them side by side
 
 def unseen(cases, fonts):
     """what the cases lack: a call of the first table of docs/PROMISES.md that is no dry run, a number that a call can
-    be refused with, or an answer"""
+    be refused with, or an answer; and of `why` a reason"""
     known, seen = Orders(pages.PROMISES, "Function"), collections.defaultdict(set)
     for c in cases:
         seen[known.named(NAMED.get(c["call"], c["call"]))].add(terms.number(c, fonts))
@@ -49,6 +49,9 @@ def unseen(cases, fonts):
         lacking = sorted({0, *known.order(call)} - seen[call])
         if lacking and call[1] not in DRY_RUNS:
             yield f"no case of {'::'.join(call)} is answered {lacking}"
+    reasons = {terms.reason(c, fonts) for c in cases if c["call"] == "why"}
+    for number in sorted(set(model.REASONS) - reasons):
+        yield f"no case of why::why has the reason {number}, {model.REASONS[number]}"
 
 
 # ---- the libraries

@@ -63,6 +63,7 @@ def term(font, rec, c):
         "dimensions": "saidSized (dimensions {f} {r})", "prep_char": "saidPrepared (prepChar {f} {r} {code})",
         "utf8_step": "saidStep (stepAt {t} {i})", "check": "saidChecked (checkedText {t})",
         "hex_read": "saidHex (hexRead {t})",
+        "why": "saidTold (whyOf {f} {r} {code} {len} (placeAt {start} {stride} {scale}))",
     }
     lent = {
         "draw_bitmap": "bitmap {f} {r} {g} {width} {height} {len} {start} {stride} {scale}",
@@ -104,12 +105,23 @@ def made(c, fonts):
     return model.changed(model.load(fonts[c.get("of", c["font"])]), c.get("rec", {}))
 
 
+def told(c, fonts):
+    """the model's answer to a case that is no dump"""
+    return answer(fonts[c["font"]] if "font" in c else b"", made(c, fonts), c)
+
+
 def number(c, fonts):
     """the number that the model refuses a case with, or 0"""
     if c["call"] == "dump":
         refused = re.fullmatch(rb"refused (\d\d)\n", model.dump(text_of(c)))
         return int(refused[1]) if refused else 0
-    return answer(fonts[c["font"]] if "font" in c else b"", made(c, fonts), c)[0]
+    return told(c, fonts)[0]
+
+
+def reason(c, fonts):
+    """the reason that the model gives for a case of `why`, None where it refuses"""
+    values = told(c, fonts)[2]
+    return values[0] if values else None
 
 
 def module(batch, fonts, uses, opened):

@@ -1,7 +1,7 @@
-"""The rules and decisions of document 01 once more, with the customer's later wishes for fonts in the other bit order
-and for strict loading, in plain Python, a file a subject; it shares nothing with the definitions in crates/*/specs.
-Literal and slow on purpose: nested loops over rows, columns and blocks, linear searches. tests/definitions holds the
-definitions to it."""
+"""The rules and decisions of document 01 once more, with the customer's later wishes for fonts in the other bit order,
+for strict loading and for the reason why a character is not on the glass, in plain Python, a file a subject; it shares
+nothing with the definitions in crates/*/specs. Literal and slow on purpose: nested loops over rows, columns and blocks,
+linear searches. tests/definitions holds the definitions to it."""
 # flake8: noqa: F401
 from model.codes import get_glyph, lookup
 from model.drawing import (bitmap_check, char_check, coloured, draw_bitmap, draw_char, draw_glyph, glyph_check,
@@ -16,3 +16,4 @@ from model.strings import get_name, name_bytes, part_of, prop_at
 from model.texts import draw_string, text_check
 from model.utf8 import check, utf8_step
 from model.vetting import vet
+from model.why import REASONS, why

@@ -85,23 +85,39 @@ def bad_scale(scale):
     return not (1 <= scale and scale <= 64)
 
 
+def drawn_rows(height, L, p, stride, scale):
+    """how many rows of a bitmap at p are drawn"""
+    m = 0 if p > L else (L - p) // stride
+    return min(height, (m // scale) * scale)
+
+
+def set_bits(b, bm, starts, width):
+    """row and column of each set bit below the width, of the rows that begin there in the data"""
+    for r in range(len(starts)):
+        for c in range(width):
+            if is_set(b, bm, starts[r], c):
+                yield r, c
+
+
+def block(p, r, c, stride, scale):
+    """the pixels that a set bit colours"""
+    for a in range(scale):
+        for bb in range(scale):
+            yield p + r * stride * scale + c * scale + a * stride + bb
+
+
 def picture(b, rec, g, width, height, L, p, stride, scale):
     """The core of drawing: a refusal number (12, 13, 14, 16) or (rows, [pixels])."""
-    m = 0 if p > L else (L - p) // stride
-    rows = min(height, (m // scale) * scale)
+    rows = drawn_rows(height, L, p, stride, scale)
     starts = rows_in_data(b, rec, g, width, rows, width)
     if isinstance(starts, int):
         return starts
     pixels = []
-    for r in range(rows):
-        for c in range(width):
-            if is_set(b, rec["bitmaps"], starts[r], c):
-                for a in range(scale):
-                    for bb in range(scale):
-                        q = p + r * stride * scale + c * scale + a * stride + bb
-                        if q >= L:
-                            return 16
-                        pixels.append(q)
+    for r, c in set_bits(b, rec["bitmaps"], starts, width):
+        for q in block(p, r, c, stride, scale):
+            if q >= L:
+                return 16
+            pixels.append(q)
     return (rows, pixels)
 
 
@@ -133,9 +149,14 @@ def bad_info(info):
             or info["pad_top"] > 32767 or info["pad_left"] > 32767)
 
 
+def place_of(info, start, stride, scale):
+    """p, where a glyph's bitmap begins"""
+    return start + stride * scale * info["pad_top"] + scale * info["pad_left"]
+
+
 def glyph_picture(b, rec, info, L, start, stride, scale):
     """a refusal number (13, 14, 16) or (rows, dropped, pixels); 12 is nothing drawn, 0 dropped"""
-    p = start + stride * scale * info["pad_top"] + scale * info["pad_left"]
+    p = place_of(info, start, stride, scale)
     r = picture(b, rec, info["glyph"], info["width"], info["height"], L, p, stride, scale)
     if r == 12:
         return (0, 0, [])
