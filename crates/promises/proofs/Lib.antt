@@ -24,3 +24,6 @@ mod TextHeight
 mod Texts
 mod TextKeeps
 mod GivenF
+mod WhyCodes
+mod WhyFirst
+mod WhyDrawn

@@ -115,7 +115,7 @@ good-metrics m top w =
 
 -- the rest, of a record whose regions lie in the bytes
 module _ (s : List ℕ) (rec : Record) (fits : recordFits (length s) rec ≡ true) where
-  data-size : length (bitsOf s (rec .bitmaps)) ≡ rec .bitmaps .size
+  pub data-size : length (bitsOf s (rec .bitmaps)) ≡ rec .bitmaps .size
   data-size =
       let b = rec .bitmaps in
       omega (arith, data-length s b, leb-true (b .bits + b .size) (length s) (bitmap-bytes (length s) rec fits))

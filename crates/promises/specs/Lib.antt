@@ -10,3 +10,4 @@ pub mod Refusing
 pub mod VettingSaid
 pub mod Drawing
 pub mod Texts
+pub mod Why
