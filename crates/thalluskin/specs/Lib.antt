@@ -4,3 +4,4 @@ pub mod Reading
 pub mod Placing
 pub mod Drawing
 pub mod Texts
+pub mod Reasons

@@ -8,6 +8,7 @@ mod drawing;
 mod modes;
 mod placing;
 mod reading;
+mod reasons;
 mod texts;
 mod version;
 
@@ -31,6 +32,7 @@ pub use reading::thalluskin_property;
 pub use reading::thalluskin_vet;
 use reads::CharCode;
 use reads::GlyphIndex;
+pub use reasons::thalluskin_why;
 use tables::AcceleratorUnpacked;
 use tables::MetricsUnpacked;
 use tables::Record;
@@ -39,6 +41,7 @@ pub use texts::thalluskin_draw_string;
 pub use texts::thalluskin_text_check;
 pub use texts::thalluskin_utf8_step;
 pub use version::thalluskin_version;
+use why::ReasonNumber;
 
 // The numbers of a drawing. `wrap` is for texts alone, and with every bit set it is none; unpacking looks at `start`,
 // `stride` and `mode`.
@@ -139,6 +142,14 @@ pub struct CharAnswer {
     pub place: usize,
     pub info: GlyphInfo,
     pub rows: Rows,
+}
+
+// Why a character is not on the glass, or is: the reason's number, which is never 0, and how many rows were cut.
+#[repr(C)]
+pub struct WhyAnswer {
+    pub refusal: u32,
+    pub place: usize,
+    pub reason: ReasonNumber,
 }
 
 // How many rows were unpacked.
