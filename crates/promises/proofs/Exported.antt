@@ -38,6 +38,8 @@ use Rattle.glyphs.specs.Glyph.{drawGlyph}
 use Rattle.glyphs.specs.Char.{drawChar, saidChar}
 use Rattle.glyphs.specs.Unpack.{unpackGlyph}
 use Rattle.glyphs.specs.declared.CharDrawn.{CharDrawn}
+use Rattle.why.specs.Why.{whyOf, saidTold}
+use Rattle.why.specs.declared.Told.{Told}
 use Rattle.utf8.specs.Step.{stepAt, saidStep}
 use Rattle.utf8.specs.declared.Step.{Step}
 use Rattle.text.specs.Text.{drawString, saidText}
@@ -50,17 +52,19 @@ use Rattle.thalluskin.specs.Reading.{fontAnswer, propAnswer, propertyAnswer, gl
 use Rattle.thalluskin.specs.Placing.{extentAnswer, infoAnswer}
 use Rattle.thalluskin.specs.Drawing.{rowsAnswer, charAnswer, unpackAnswer}
 use Rattle.thalluskin.specs.Texts.{textAnswer, stepAnswer}
+use Rattle.thalluskin.specs.Reasons.{whyAnswer}
 use Rattle.load.proofs.Refusals.{load-pcf-refusals, load-strict-refusals}
 use Rattle.utf8.proofs.Refusals.{step-at-refusals}
 use Rattle.vet.proofs.Refusals.{vet-refusals}
 use Rattle.promises.specs.Refusals.{Answers}
-use Rattle.promises.specs.Exported.{readOff, saysFont, saysProperty, saysGlyph, saysName, saysMetrics, saysAccel, saysExtent, saysInfo, saysRows, saysChar, saysUnpack, saysText, saysStep}
+use Rattle.promises.specs.Exported.{readOff, saysFont, saysProperty, saysGlyph, saysName, saysMetrics, saysAccel, saysExtent, saysInfo, saysRows, saysChar, saysWhy, saysUnpack, saysText, saysStep}
 use Rattle.promises.proofs.Refusals.{
   prop-at-refusals,
   get-name-refusals,
   get-metrics-refusals,
   get-accelerators-refusals,
   dimensions-refusals,
+  why-refusals,
 }
 use Rattle.promises.proofs.DrawingRefusals.{
   draw-bitmap-refusals,
@@ -115,6 +119,10 @@ rows-read (Drawn.Refused r) h = a-refusal (r .number) (r .place) _ h
 char-read : (x : CharDrawn) → Answers (saidChar x) → saysChar (charAnswer x) ≡ saidChar x
 char-read (CharDrawn.Glyph i n) h = refl
 char-read (CharDrawn.Refused r) h = a-refusal (r .number) (r .place) _ h
+
+why-read : (x : Told) → Answers (saidTold x) → saysWhy (whyAnswer x) ≡ saidTold x
+why-read (Told.Because r) h = refl
+why-read (Told.Refused r) h = a-refusal (r .number) (r .place) _ h
 
 unpack-read : (x : Unpacked) → Answers (saidUnpacked x) → saysUnpack (unpackAnswer x) ≡ saidUnpacked x
 unpack-read (Unpacked.Rows n) h = refl
@@ -189,6 +197,10 @@ pub draw-char-says : (s : List ℕ) (rec : Record) (code len : ℕ) (at : Place)
     → let d = drawChar s rec code len at in saysChar (charAnswer d) ≡ saidChar d
 draw-char-says s rec code len at =
     char-read (drawChar s rec code len at) (nought-answers refl (draw-char-refusals s rec code len at .numbered))
+
+pub why-says : (s : List ℕ) (rec : Record) (code len : ℕ) (at : Place)
+    → let t = whyOf s rec code len at in saysWhy (whyAnswer t) ≡ saidTold t
+why-says s rec code len at = why-read (whyOf s rec code len at) (nought-answers refl (why-refusals s rec code len at .numbered))
 
 pub unpack-glyph-says : (s : List ℕ) (rec : Record) (info : GlyphInfo) (len start stride : ℕ)
     → let u = unpackGlyph s rec info len start stride in saysUnpack (unpackAnswer u) ≡ saidUnpacked u

@@ -27,6 +27,8 @@ use Rattle.glyphs.specs.Glyph.{glyphReady, drawGlyph}
 use Rattle.glyphs.specs.Char.{charReady, drawChar}
 use Rattle.glyphs.specs.Unpack.{unpackGlyph}
 use Rattle.glyphs.specs.declared.CharDrawn.{CharDrawn}
+use Rattle.why.specs.Why.{whyOf}
+use Rattle.why.specs.declared.Told.{Told}
 use Rattle.text.specs.Text.{ready, drawString}
 use Rattle.text.specs.declared.TextDrawn.{TextDrawn}
 use Rattle.thalluskin.specs.Modes.{isKnown, strideOf}
@@ -65,7 +67,7 @@ pub guarded-unknown : {A : Type 0} (refused : Refusal → A) (s : List ℕ) (rec
 guarded-unknown refused s rec mode answer other =
     rw (not-known mode other) (split (recordFits (length s) rec) (λ t. rw t refl) (λ t. rw t refl))
 
--- of one that draws or unpacks: a page without lines is outside the limits
+-- of one that draws, unpacks or says why: a page without lines is outside the limits
 module _ (s : List ℕ) (rec : Record) (page : PageNumbers) (other : page .mode ≡ 0 → ⊥) where
   unlined : (scale : ℕ) → okPlace (placeAt (page .start) (strideOf page) scale) ≡ false
   unlined scale =
@@ -83,6 +85,10 @@ module _ (s : List ℕ) (rec : Record) (page : PageNumbers) (other : page .mode 
   pub draw-char-unknown : (code len : ℕ) → drawChar s rec code len (placeOf page) ≡ CharDrawn.Refused (unknownMode s rec)
   unfolding drawChar charReady
   draw-char-unknown code len = rw (unlined (page .scale)) (split (recordFits (length s) rec) (λ t. rw t refl) (λ t. rw t refl))
+
+  pub why-unknown : (code len : ℕ) → whyOf s rec code len (placeOf page) ≡ Told.Refused (unknownMode s rec)
+  unfolding whyOf
+  why-unknown code len = rw (unlined (page .scale)) (split (recordFits (length s) rec) (λ t. rw t refl) (λ t. rw t refl))
 
   pub unpack-glyph-unknown : (info : GlyphInfo) (len : ℕ) → unpackGlyph s rec info len (page .start) (strideOf page) ≡ Unpacked.Refused (unknownMode s rec)
   unfolding unpackGlyph glyphReady ladder

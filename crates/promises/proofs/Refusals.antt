@@ -25,11 +25,15 @@ use Rattle.place.specs.Info.{prepChar, ofPlacing, saidPrepared}
 use Rattle.place.specs.declared.Sized.{Sized}
 use Rattle.place.specs.declared.Prepared.{Prepared}
 use Rattle.place.proofs.Refusals.{char-info-refusals}
+use Rattle.bitmaps.specs.Limits.{okPlace}
+use Rattle.bitmaps.specs.Place.{Place}
+use Rattle.why.specs.Why.{whyOf, saidTold}
+use Rattle.why.specs.declared.Told.{Told}
 use Rattle.frames.specs.Put.{frameInto, ofFrames, saidPrinted}
 use Rattle.frames.specs.declared.Printed.{Printed}
 use Rattle.frames.proofs.Refusals.{frame-numbered}
 use Rattle.promises.specs.Refusals.{Refusals}
-use Rattle.promises.proofs.RecordTest.{tested-refusals}
+use Rattle.promises.proofs.RecordTest.{tested-refusals, guarded-refusals}
 
 -- the calls with a record
 
@@ -66,6 +70,10 @@ module _ (s : List ℕ) (rec : Record) where
   unfolding prepChar
   prep-char-refusals code =
       tested-refusals s rec saidPrepared Prepared.Refused (λ r. refl) _ refl (λ fits. char-info-refusals s (rec .codes) (rec .metrics) (boundsOf rec) code)
+
+  pub why-refusals : (code len : ℕ) (at : Place) → Refusals s rec (6 ∷ 15 ∷ []) (saidTold (whyOf s rec code len at))
+  unfolding whyOf
+  why-refusals code len at = guarded-refusals s rec saidTold Told.Refused (λ r. refl) (okPlace at) _ refl (λ fits. has-values)
 
   pub put-frame-refusals : (code room : ℕ) → Refusals s rec (6 ∷ ofFrames) (saidPrinted (frameInto s rec code room))
   unfolding frameInto

@@ -169,6 +169,10 @@ use Rattle.glyphs.proofs.unpack_glyph.Kinds as unpack-glyph-kinds
 use Rattle.glyphs.proofs.unpack_glyph.Reads as unpack-glyph-reads
 use Rattle.place.proofs.bounds_sized.Kinds as bounds-sized-kinds
 use Rattle.place.proofs.bounds_sized.Reads as bounds-sized-reads
+use Rattle.why.proofs.why.Kinds as why-kinds
+use Rattle.why.proofs.why.Reads as why-reads
+use Rattle.why.proofs.reason_number.Kinds as reason-number-kinds
+use Rattle.why.proofs.reason_number.Reads as reason-number-reads
 use Rattle.utf8.proofs.step_at.Kinds as step-at-kinds
 use Rattle.utf8.proofs.step_at.Reads as step-at-reads
 use Rattle.utf8.proofs.check.Kinds as check-kinds
@@ -431,6 +435,12 @@ unpack-glyph-unique κs a r₁ r₂ x₁ x₂ p q = (p .0 ∙ sym (q .0), p .1 �
 
 pub bounds-sized-unique : Fixes 0 bounds-sized-kinds.ps bounds-sized-kinds.r bounds-sized-reads.Post
 bounds-sized-unique κs a r₁ r₂ x₁ x₂ p q = p ∙ sym q
+
+pub why-unique : Fixes 1 why-kinds.ps why-kinds.r why-reads.Post
+why-unique κs a r₁ r₂ x₁ x₂ p q = p ∙ sym q
+
+pub reason-number-unique : Fixes 0 reason-number-kinds.ps reason-number-kinds.r reason-number-reads.Post
+reason-number-unique κs a r₁ r₂ x₁ x₂ p q = p ∙ sym q
 
 pub step-at-unique : Fixes 1 step-at-kinds.ps step-at-kinds.r step-at-reads.Post
 step-at-unique κs a r₁ r₂ x₁ x₂ p q = p ∙ sym q

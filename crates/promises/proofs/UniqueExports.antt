@@ -30,6 +30,8 @@ use Rattle.thalluskin.proofs.thalluskin_draw_glyph.Kinds as thalluskin-draw-gly
 use Rattle.thalluskin.proofs.thalluskin_draw_glyph.Reads as thalluskin-draw-glyph-reads
 use Rattle.thalluskin.proofs.thalluskin_draw_char.Kinds as thalluskin-draw-char-kinds
 use Rattle.thalluskin.proofs.thalluskin_draw_char.Reads as thalluskin-draw-char-reads
+use Rattle.thalluskin.proofs.thalluskin_why.Kinds as thalluskin-why-kinds
+use Rattle.thalluskin.proofs.thalluskin_why.Reads as thalluskin-why-reads
 use Rattle.thalluskin.proofs.thalluskin_unpack_glyph.Kinds as thalluskin-unpack-glyph-kinds
 use Rattle.thalluskin.proofs.thalluskin_unpack_glyph.Reads as thalluskin-unpack-glyph-reads
 use Rattle.thalluskin.proofs.thalluskin_draw_string.Kinds as thalluskin-draw-string-kinds
@@ -80,6 +82,9 @@ thalluskin-draw-glyph-unique κs a r₁ r₂ x₁ x₂ p q = (p .0 ∙ sym (q .0
 
 pub thalluskin-draw-char-unique : FixesLent 2 thalluskin-draw-char-kinds.ps thalluskin-draw-char-kinds.r thalluskin-draw-char-reads.Post (λ κs x. now (x .1 .1 .1 .0))
 thalluskin-draw-char-unique κs a r₁ r₂ x₁ x₂ p q = (p .0 ∙ sym (q .0), p .1 ∙ sym (q .1))
+
+pub thalluskin-why-unique : Fixes 1 thalluskin-why-kinds.ps thalluskin-why-kinds.r thalluskin-why-reads.Post
+thalluskin-why-unique κs a r₁ r₂ x₁ x₂ p q = p ∙ sym q
 
 pub thalluskin-unpack-glyph-unique : FixesLent 2 thalluskin-unpack-glyph-kinds.ps thalluskin-unpack-glyph-kinds.r thalluskin-unpack-glyph-reads.Post (λ κs x. now (x .1 .1 .1 .0))
 thalluskin-unpack-glyph-unique κs a r₁ r₂ x₁ x₂ p q = (p .0 ∙ sym (q .0), p .1 ∙ sym (q .1))

@@ -11,6 +11,7 @@ use Rattle.tables.specs.Values.{metricsValues, acceleratorValues, recordValues}
 use Rattle.tables.specs.declared.Record.{Record}
 use Rattle.bitmaps.specs.Draw.{rowsValues}
 use Rattle.place.specs.Info.{infoValues}
+use Rattle.why.specs.Why.{reasonValues}
 use Rattle.thalluskin.specs.declared.FontAnswer.{FontAnswer}
 use Rattle.thalluskin.specs.declared.PropertyAnswer.{PropertyAnswer}
 use Rattle.thalluskin.specs.declared.GlyphAnswer.{GlyphAnswer}
@@ -21,6 +22,7 @@ use Rattle.thalluskin.specs.declared.ExtentAnswer.{ExtentAnswer}
 use Rattle.thalluskin.specs.declared.InfoAnswer.{InfoAnswer}
 use Rattle.thalluskin.specs.declared.RowsAnswer.{RowsAnswer}
 use Rattle.thalluskin.specs.declared.CharAnswer.{CharAnswer}
+use Rattle.thalluskin.specs.declared.WhyAnswer.{WhyAnswer}
 use Rattle.thalluskin.specs.declared.UnpackAnswer.{UnpackAnswer}
 use Rattle.thalluskin.specs.declared.TextAnswer.{TextAnswer}
 use Rattle.thalluskin.specs.declared.StepAnswer.{StepAnswer}
@@ -63,6 +65,9 @@ saysRows a = readOff (a .refusal) (a .place) (rowsValues (a .rows))
 
 abbrev pub saysChar : CharAnswer → Said
 saysChar a = readOff (a .refusal) (a .place) (infoValues (a .info) ++ rowsValues (a .rows))
+
+abbrev pub saysWhy : WhyAnswer → Said
+saysWhy a = readOff (a .refusal) (a .place) (reasonValues (a .reason))
 
 abbrev pub saysUnpack : UnpackAnswer → Said
 saysUnpack a = readOff (a .refusal) (a .place) (pos (a .rows) ∷ [])
