@@ -87,6 +87,25 @@ enum {
     THK_TWO_FORMATS = 27   /* a known table's format differs from its directory entry's */
 };
 
+/* Why a character is on the page or not: what thk_why names, in the order in which it looks. A reason that is a refusal
+ * has its number, and the others have numbers that no refusal has, so that 0, which stands beside a refusal, is no
+ * reason. */
+enum {
+    THK_WHY_ABOVE_CODES = 31,  /* code above 65,535 */
+    THK_WHY_FIRST_BYTE = 32,   /* the code's first byte is outside its bounds */
+    THK_WHY_SECOND_BYTE = 33,  /* its second byte is, or the whole code */
+    THK_WHY_EMPTY_ENTRY = 34,  /* the code's entry is empty */
+    THK_WHY_NO_METRICS = 10,   /* as THK_NO_METRICS, and so the next five */
+    THK_WHY_BAD_METRICS = 11,
+    THK_WHY_NO_BITMAP = 12,
+    THK_WHY_BIT_ORDER = 13,
+    THK_WHY_BITMAP_SHORT = 14,
+    THK_WHY_BUFFER_SHORT = 16,
+    THK_WHY_ROWS_CUT = 35,     /* the page's end cut rows */
+    THK_WHY_BLANK = 36,        /* all rows are drawn, and no bit is set */
+    THK_WHY_DRAWN = 37         /* all rows are drawn, with something to see */
+};
+
 /* The limits of what calls take; 15 refuses a number past them, and 19 a longer text. */
 #define THK_MAX_STRIDE UINT64_C(65535) /* and at least 1 */
 #define THK_MAX_SCALE UINT64_C(64) /* and at least 1 */
@@ -275,6 +294,12 @@ typedef struct {
     uint16_t dropped;
 } thk_rows;
 
+/* A reason, one of THK_WHY_.., and for THK_WHY_ROWS_CUT how many rows were cut, else 0. */
+typedef struct {
+    uint32_t number;
+    uint16_t cut;
+} thk_reason;
+
 /* The height that a text takes, in pixels, and how many rows of all its glyphs were dropped. */
 typedef struct {
     uint64_t height;
@@ -352,6 +377,12 @@ typedef struct {
 typedef struct {
     uint32_t refusal;
     uint64_t place;
+    thk_reason reason;
+} thk_why_answer;
+
+typedef struct {
+    uint32_t refusal;
+    uint64_t place;
     uint16_t rows;
 } thk_unpack_answer;
 
@@ -416,6 +447,8 @@ THK_DECLARE(thk_rows_answer, draw_glyph, const uint8_t *bytes, uint64_t bytes_le
             THK_STRUCT(thk_glyph_info) info, uint32_t *buf, uint64_t buf_len, THK_STRUCT(thk_page_numbers) page);
 THK_DECLARE(thk_char_answer, draw_char, const uint8_t *bytes, uint64_t bytes_len, THK_STRUCT(thk_record) rec,
             THK_STRUCT(thk_char_code) code, uint32_t *buf, uint64_t buf_len, THK_STRUCT(thk_page_numbers) page);
+THK_DECLARE(thk_why_answer, why, const uint8_t *bytes, uint64_t bytes_len, THK_STRUCT(thk_record) rec,
+            THK_STRUCT(thk_char_code) code, uint64_t len, THK_STRUCT(thk_page_numbers) page);
 THK_DECLARE(thk_unpack_answer, unpack_glyph, const uint8_t *bytes, uint64_t bytes_len, THK_STRUCT(thk_record) rec,
             THK_STRUCT(thk_glyph_info) info, uint8_t *buf, uint64_t buf_len, THK_STRUCT(thk_page_numbers) page);
 THK_DECLARE(thk_text_answer, draw_string, const uint8_t *bytes, uint64_t bytes_len, THK_STRUCT(thk_record) rec,
@@ -479,6 +512,41 @@ static inline const char *thk_refusal_words(uint32_t number)
         return "text too long or not UTF-8";
     case THK_TWO_FORMATS:
         return "a known table's format differs from its directory entry's";
+    default:
+        return "an unknown reason";
+    }
+}
+
+/* What a reason's number means, in English. */
+static inline const char *thk_reason_words(uint32_t number)
+{
+    switch (number) {
+    case THK_WHY_ABOVE_CODES:
+        return "code above 65,535";
+    case THK_WHY_FIRST_BYTE:
+        return "the code's first byte is outside its bounds";
+    case THK_WHY_SECOND_BYTE:
+        return "the code's second byte, or the whole code, is outside its bounds";
+    case THK_WHY_EMPTY_ENTRY:
+        return "the code's entry is empty";
+    case THK_WHY_NO_METRICS:
+        return "glyph at or above the metrics count";
+    case THK_WHY_BAD_METRICS:
+        return "metrics out of range";
+    case THK_WHY_NO_BITMAP:
+        return "glyph at or above the bitmap count";
+    case THK_WHY_BIT_ORDER:
+        return "scan unit code 3, or a scan unit wider than the row pad";
+    case THK_WHY_BITMAP_SHORT:
+        return "a needed bitmap byte lies beyond the bitmap data";
+    case THK_WHY_BUFFER_SHORT:
+        return "a pixel to colour lies beyond the buffer";
+    case THK_WHY_ROWS_CUT:
+        return "rows cut at the buffer's end";
+    case THK_WHY_BLANK:
+        return "drawn, and no bit is set";
+    case THK_WHY_DRAWN:
+        return "drawn";
     default:
         return "an unknown reason";
     }
@@ -659,6 +727,33 @@ static inline thk_char_answer thk_draw_char(const uint8_t *font, uint64_t font_l
                THK_GIVE(&numbers));
 }
 
+/* Why thk_draw_char leaves a gap where a character should be, or does not: one reason, the first of these that is true
+ * of the font, the code and the page. The page's pixels are not looked at and may be NULL.
+ *
+ *   THK_WHY_ABOVE_CODES    the code is above 65,535, and no font has a glyph for it
+ *   THK_WHY_FIRST_BYTE     its first byte is outside the bounds that the code table has for first bytes, not both 0
+ *   THK_WHY_SECOND_BYTE    its second byte is outside the bounds for second bytes; or, where those for first bytes are
+ *                          both 0, the whole code is
+ *   THK_WHY_EMPTY_ENTRY    the code table's entry for it is 65,535, which says that it has no glyph
+ *   THK_WHY_NO_METRICS     its glyph's number is at or above the metrics count
+ *   THK_WHY_BAD_METRICS    the glyph's metrics are out of range, as thk_prep_char refuses them
+ *   THK_WHY_NO_BITMAP      its number is at or above the bitmap count; thk_draw_char draws nothing then and is not
+ *                          refused
+ *   THK_WHY_BIT_ORDER      the font's rows are in no order that can be read
+ *   THK_WHY_BITMAP_SHORT   a byte that holds columns of a row to draw lies beyond the bitmap data
+ *   THK_WHY_BUFFER_SHORT   a set bit of a row to draw has a pixel beyond the page
+ *   THK_WHY_ROWS_CUT       the page's end cuts `cut` rows; those above them, if there are any, are drawn
+ *   THK_WHY_BLANK          all rows are drawn, and none has a set bit, as those of a space
+ *   THK_WHY_DRAWN          all rows are drawn, and there is a set bit. If nothing shows, the colour is the page's own
+ *
+ * The first four are those for which thk_draw_char is refused 9. Refused 6, 15. */
+static inline thk_why_answer thk_why(const uint8_t *font, uint64_t font_len, const thk_record *rec, thk_char_code code,
+                                     const thk_page *page)
+{
+    thk_page_numbers numbers = thk_numbers_of(page);
+    THK_ANSWER(thk_why_answer, why, font, font_len, THK_GIVE(rec), THK_GIVE(&code), page->len, THK_GIVE(&numbers));
+}
+
 /* Stores 1 for each set bit of every whole row byte of a placed glyph, columns past its width included, and answers how
  * many rows that were. The bit at row r and column c is stored at start + stride * pad_top + pad_left + r * stride + c,
  * and all other bytes keep their values, those of clear bits too. No row is dropped. A glyph without a bitmap is no
@@ -760,6 +855,7 @@ THK_AT(thk_extent, height, 0); THK_AT(thk_extent, width, 8); THK_SIZE(thk_extent
 THK_AT(thk_glyph_info, glyph, 0); THK_AT(thk_glyph_info, width, 2); THK_AT(thk_glyph_info, height, 4);
 THK_AT(thk_glyph_info, pad_top, 6); THK_AT(thk_glyph_info, pad_left, 8); THK_SIZE(thk_glyph_info, 10);
 THK_AT(thk_rows, drawn, 0); THK_AT(thk_rows, dropped, 2); THK_SIZE(thk_rows, 4);
+THK_AT(thk_reason, number, 0); THK_AT(thk_reason, cut, 4); THK_SIZE(thk_reason, 8);
 THK_AT(thk_text_rows, height, 0); THK_AT(thk_text_rows, dropped, 8); THK_SIZE(thk_text_rows, 16);
 THK_AT(thk_page_numbers, start, 0); THK_AT(thk_page_numbers, stride, 8); THK_AT(thk_page_numbers, scale, 16);
 THK_AT(thk_page_numbers, wrap, 24); THK_AT(thk_page_numbers, colour, 32); THK_AT(thk_page_numbers, mode, 36);
@@ -786,6 +882,8 @@ THK_AT(thk_rows_answer, refusal, 0); THK_AT(thk_rows_answer, place, 8); THK_AT(t
 THK_SIZE(thk_rows_answer, 24);
 THK_AT(thk_char_answer, refusal, 0); THK_AT(thk_char_answer, place, 8); THK_AT(thk_char_answer, info, 16);
 THK_AT(thk_char_answer, rows, 26); THK_SIZE(thk_char_answer, 32);
+THK_AT(thk_why_answer, refusal, 0); THK_AT(thk_why_answer, place, 8); THK_AT(thk_why_answer, reason, 16);
+THK_SIZE(thk_why_answer, 24);
 THK_AT(thk_unpack_answer, refusal, 0); THK_AT(thk_unpack_answer, place, 8); THK_AT(thk_unpack_answer, rows, 16);
 THK_SIZE(thk_unpack_answer, 24);
 THK_AT(thk_text_answer, refusal, 0); THK_AT(thk_text_answer, place, 8); THK_AT(thk_text_answer, rows, 16);

@@ -174,9 +174,9 @@ def told_numbers():
     parts = [part for row in rows for part in row.split("; ")]
     yield pages.PROMISES, [int(m[1]) for m in map(re.compile(r"(\d+) [a-z]").match, parts) if m], EVERY
     text = code.read("include/thalluskin.h")
-    header = re.findall(r"^ *THK_(\w+) = (\d+)\b", text, re.M)
+    header = re.findall(r"^ *THK_(?!WHY_)(\w+) = (\d+)\b", text, re.M)
     yield "include/thalluskin.h", [int(n) for _, n in header], IN_HEADER
-    words = re.findall(r'^ *case THK_(\w+):\n *return "(.*)";$', text, re.M)
+    words = re.findall(r'^ *case THK_(?!WHY_)(\w+):\n *return "(.*)";$', text, re.M)
     told = {row[0]: row[1] for t in tables for _, row in t.rows}
     yield "include/thalluskin.h, words", words, [(name, told.get(n, "not refused")) for name, n in header]
     refusal = code.read("bindings/rust/src/refusal.rs")

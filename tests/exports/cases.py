@@ -6,6 +6,7 @@ import model
 from dump import make as dump
 from exports import formats, layouts
 from fonts import make as fonts
+from model.drawing import place_of
 from pcf import tables
 from pcf.font_f import THREE, two_digits
 from pcf.numbers import BIG, TOP
@@ -16,13 +17,13 @@ from replay import make as replay
 LAST = calls.LAST
 # as tests/exports/replay.c numbers them
 KINDS = ["thk_load", "thk_load_strict", "thk_vet", "thk_property", "thk_glyph", "thk_name", "thk_metrics", "thk_accel",
-         "thk_dimensions", "thk_prep_char", "thk_draw_bitmap", "thk_draw_glyph", "thk_draw_char", "thk_unpack_glyph",
-         "thk_draw_string", "thk_text_check", "thk_utf8_step"]
+         "thk_dimensions", "thk_prep_char", "thk_draw_bitmap", "thk_draw_glyph", "thk_draw_char", "thk_why",
+         "thk_unpack_glyph", "thk_draw_string", "thk_text_check", "thk_utf8_step"]
 ANSWERS = {layouts.in_header(name): answer for name, (_, answer) in layouts.functions().items()}
 NUMBERS = ["code", "glyph", "width", "height", "pad_top", "pad_left", "len", "start", "wrap", "stride", "scale",
            "colour", "mode"]
 # those that take a mode, by itself or in a page
-MODED = {"thk_vet", "thk_glyph", "thk_prep_char", "thk_draw_bitmap", "thk_draw_glyph", "thk_draw_char",
+MODED = {"thk_vet", "thk_glyph", "thk_prep_char", "thk_draw_bitmap", "thk_draw_glyph", "thk_draw_char", "thk_why",
          "thk_unpack_glyph", "thk_draw_string", "thk_text_check"}
 
 
@@ -86,6 +87,9 @@ def answered(c):
     if function == "thk_draw_char":
         (info, drawn, dropped), new = model.draw_char(b, rec, c["code"], buf, *where, colour)
         return {"info": info, "rows": {"drawn": drawn, "dropped": dropped}}, new
+    if function == "thk_why":
+        number, cut = model.why(b, rec, c["code"], c["len"], *where)
+        return {"reason": {"number": number, "cut": cut}}, buf
     if function == "thk_unpack_glyph":
         rows, new = model.unpack_glyph(b, rec, info_of(c), buf, *where[:2])
         return {"rows": rows}, new
@@ -128,7 +132,8 @@ def stored(c, buf):
 
 
 def drawn():
-    """every call that draws of the program crates/replay whose function is exported, a text's also as a dry run"""
+    """every call that draws of the program crates/replay whose function is exported, a text's also as a dry run; of a
+    character also why"""
     for sections in replay.drawn().values():
         for b, of_font in sections:
             try:
@@ -152,7 +157,11 @@ def as_exported(b, rec, c, colour):
         yield call("thk_text_check", b, rec, c["text"], len=length, **numbers)
         if length <= calls.MOST:
             yield call("thk_draw_string", b, rec, c["text"], expected.before(length), colour=colour, **numbers)
-    elif length <= calls.MOST and kind != "show_glyph":
+    elif kind != "show_glyph":
+        if kind == "draw_char":
+            yield call("thk_why", b, rec, len=length, **numbers)
+        if length > calls.MOST:
+            return
         numbers.update(c.get("info") or calls.box(c.get("g", 0), c.get("width", 0), c.get("height", 0)))
         yield call("thk_" + kind, b, rec, buf=expected.before(length), colour=colour, **numbers)
 
@@ -211,16 +220,21 @@ def questions(b, rec):
     yield call("thk_dimensions", b, rec)
     for number in sorted({0, 1, 2, 3, rec["props"]["count"], 2 ** 32 - 1}):
         yield call("thk_property", b, rec, code=number)
-    c = rec["codes"]
-    codes = {0, 0x30, 0x31, 0x41, 65535, 65536, 0x10041, 2 ** 32 - 1}
-    for first, second in ((c["low1"], c["low2"]), (c["high1"], c["high2"]), (c["low1"], c["high2"])):
-        codes |= {(256 * first + second + k) % 2 ** 32 for k in (-1, 0, 1)}
-    for code in sorted(codes):
+    for code in codes_around(rec):
         yield call("thk_glyph", b, rec, code=code)
         yield call("thk_prep_char", b, rec, code=code)
     for table, function in (("names", "thk_name"), ("metrics", "thk_metrics")):
         for glyph in sorted({0, 1, 2, 3, rec[table]["count"] % 65536, 65535}):
             yield call(function, b, rec, glyph=glyph)
+
+
+def codes_around(rec):
+    """codes around the corners of a code table"""
+    c = rec["codes"]
+    codes = {0, 0x30, 0x31, 0x41, 65535, 65536, 0x10041, 2 ** 32 - 1}
+    for first, second in ((c["low1"], c["low2"]), (c["high1"], c["high2"]), (c["low1"], c["high2"])):
+        codes |= {(256 * first + second + k) % 2 ** 32 for k in (-1, 0, 1)}
+    return sorted(codes)
 
 
 def wrong_records():
@@ -234,6 +248,7 @@ def wrong_records():
             for code in (0, 0x30, 0x205):
                 yield call("thk_glyph", b, made, code=code)
                 yield call("thk_prep_char", b, made, code=code)
+                yield call("thk_why", b, made, code=code, len=99, start=0, stride=9, scale=1)
             for number in (0, 1):
                 yield call("thk_name", b, made, glyph=number)
                 yield call("thk_metrics", b, made, glyph=number)
@@ -253,6 +268,7 @@ def empty():
             yield call("thk_draw_bitmap", b, of_font, buf=buf, **box, **where)
             yield call("thk_draw_glyph", b, of_font, buf=buf, **box, **where)
             yield call("thk_draw_char", b, of_font, buf=buf, code=0x31, **where)
+            yield call("thk_why", b, of_font, len=len(buf), code=0x31, **where)
             yield call("thk_unpack_glyph", b, of_font, buf=buf, **box, **where)
             for text in (b"", b"01"):
                 for wrap in (0, LAST):
@@ -301,6 +317,7 @@ def modes():
                 yield call("thk_draw_bitmap", f, of_font, buf=[7] * 30, **box, **page)
                 yield call("thk_draw_glyph", f, of_font, buf=[7] * 30, **box, **page)
                 yield call("thk_draw_char", f, of_font, buf=[7] * 30, code=0x31, **page)
+                yield call("thk_why", f, of_font, len=30, code=0x31, **page)
                 yield call("thk_unpack_glyph", f, of_font, buf=[7] * 30, **box, **page)
                 for text in (b"01", b"0\xff"):
                     yield call("thk_draw_string", f, of_font, text, [7] * 30, wrap=LAST, **page)
@@ -313,6 +330,41 @@ def two_formats():
         yield from readings(b)
 
 
+def reasons():
+    """why: of codes of every font, on pages by lot that end around a row or a pixel of their glyph; of F with each
+    number around its limits"""
+    rng = random.Random(1)
+    for b in test_fonts().values():
+        try:
+            rec = model.load(b)
+        except model.Refused:
+            continue
+        for code in codes_around(rec):
+            yield call("thk_why", b, rec, code=code, **page_by_lot(rng, b, rec, code))
+    f = two_digits()
+    rec = model.load(f)
+    limits = {"start": (0, 2 ** 31 - 1, 2 ** 31, LAST), "stride": (0, 1, 65535, 65536, LAST),
+              "scale": (0, 1, 64, 65, LAST), "len": (0, 8, 9, LAST), "code": (0x2f, 0x30, 0x31, 0x32, 65535, 65536)}
+    for of_font in (rec, model.changed(rec, {"names.strings": LAST})):
+        for name, values in limits.items():
+            for value in values:
+                for code in (0x30, 65536):
+                    page = {"start": 0, "stride": 3, "scale": 1, "len": 9, "code": code}
+                    yield call("thk_why", f, of_font, **{**page, name: value})
+
+
+def page_by_lot(rng, b, rec, code):
+    """numbers of a page that ends around a row or a pixel of a code's glyph, if it has one that can be placed"""
+    where = {"start": rng.choice((0, 0, 1, 50)), "stride": rng.choice((1, 3, 8, 33)), "scale": rng.choice((1, 1, 2, 5))}
+    try:
+        info = model.prep_char(b, rec, code)
+    except model.Refused:
+        return {**where, "len": rng.randrange(100)}
+    first = place_of(info, **where)
+    rows = rng.randrange(info["height"] * where["scale"] + 2)
+    return {**where, "len": max(0, first + rows * where["stride"] + rng.choice((-1, 0, 1, info["width"])))}
+
+
 def all_calls():
-    for group in (read, wrong_records, empty, modes, orders_by_lot, two_formats, drawn):
+    for group in (read, wrong_records, empty, modes, orders_by_lot, two_formats, reasons, drawn):
         yield from group()

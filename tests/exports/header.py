@@ -2,8 +2,9 @@
 import os
 import re
 
+import model
 from common import ROOT, TESTS, read, run
-from documents.refusals import IN_HEADER
+from documents.refusals import EVERY, IN_HEADER
 from exports import layouts
 from exports.machine import ARCHIVE, fail, has, must
 from native import library
@@ -16,17 +17,54 @@ SERVED = ["thumbv7em-none-eabi", "thumbv6m-none-eabi", "riscv32-unknown-elf", "r
 # another order of bytes, and uint64_t at multiples of 4, with words of why the header is refused there
 NOT_SERVED = {"powerpc64-linux-gnu": "little-endian byte order", "i386-linux-gnu": "another layout than the archive's"}
 IN_C, IN_CPP = ["c99", "c11", "c17"], ["c++11", "c++17"]
+REFUSAL, REASON = r"\bTHK_(?!WHY_)(\w+)", r"\bTHK_WHY_(\w+)"  # the names of both, without what all have in common
+
+
+def c_numbers(names):
+    """the names of the header's refusals or reasons, and their numbers"""
+    return [(name, int(n)) for name, n in re.findall(names + r" = (\d+)", read("include", "thalluskin.h"))]
+
+
+def words_by_number(names):
+    """what the header says of each refusal or reason"""
+    cases = re.findall(r'^    case ' + names + r':\n        return "(.*)";$', read("include", "thalluskin.h"), re.M)
+    return {dict(c_numbers(names))[name]: words for name, words in cases}
 
 
 def c_refusals():
-    """the names of the header's refusals, without THK_, and their numbers"""
-    return [(name, int(n)) for name, n in re.findall(r"\bTHK_(\w+) = (\d+)", read("include", "thalluskin.h"))]
+    return c_numbers(REFUSAL)
 
 
 def c_words():
-    """what the header says of each refusal"""
-    cases = re.findall(r'^    case THK_(\w+):\n        return "(.*)";$', read("include", "thalluskin.h"), re.M)
-    return {dict(c_refusals())[name]: words for name, words in cases}
+    return words_by_number(REFUSAL)
+
+
+def c_reasons():
+    return c_numbers(REASON)
+
+
+def c_reason_words():
+    return words_by_number(REASON)
+
+
+def of_source(name):
+    """a reason's name in the Rattle sources and in Rust, as the header has it"""
+    return re.sub(r"\B([A-Z])", r"_\1", name).upper()
+
+
+def reasons():
+    """the reasons are the sources', in the model's order; those that are refusals have their names and words"""
+    told = re.findall(r"Reason::(\w+)(?:\(cut\))? => ReasonNumber \{ number: (\d+), cut", read(
+        "crates", "why", "src", "lib.rt"))
+    numbers, refusals, words = c_reasons(), dict(c_refusals()), c_words()
+    if numbers != [(of_source(name), int(n)) for name, n in told] or [n for _, n in numbers] != list(model.REASONS):
+        fail("the header's reasons are %s" % numbers)
+    for name, n in numbers:
+        if refusals.get(name) != (n if n in EVERY else None) or words.get(n) not in (None, c_reason_words().get(n)):
+            fail("the header's reason %s, %d, is not the refusal" % (name, n))
+    if list(c_reason_words()) != [n for _, n in numbers]:
+        fail("the header's reasons with words are %s" % list(c_reason_words()))
+    return len(numbers)
 
 
 def declared(text):
@@ -51,7 +89,7 @@ def declared(text):
     numbers = c_refusals()
     if [n for _, n in numbers] != IN_HEADER or sorted(c_words()) != IN_HEADER:
         fail("the header's refusals are %s" % numbers)
-    return len(structs), len(prototypes), len(stated)
+    return len(structs), len(prototypes), len(stated), reasons()
 
 
 def dialects(at, folder, text):
@@ -117,5 +155,5 @@ def header(at, folder):
     number = sum(int(part) * size for part, size in zip(version.groups(), (10000, 100, 1)))
     if "#define THK_VERSION %d\n" % number not in text:
         fail("the header's version is not the Rust crate's")
-    print("exports: the header's %d structs, %d prototypes and %d assertions are the sources'; %d dialects, "
-          "%d processors, %d limits and defaults" % (*counts, spoken, len(SERVED), limits(at, folder)))
+    print("exports: the header's %d structs, %d prototypes, %d assertions and %d reasons are the sources'; "
+          "%d dialects, %d processors, %d limits and defaults" % (*counts, spoken, len(SERVED), limits(at, folder)))

@@ -125,6 +125,11 @@ static size_t called(const struct call *c, uint8_t *const lent[], uint64_t len, 
              (OF_FONT, STRUCT(thk_char_code), OF_PAGE), font, len, GIVE(*rec), GIVE(code), buf, c->buf_len,
              GIVE(numbers));
         break;
+    case WHY:
+        CALL(thk_why_answer, why, thk_why(font, len, rec, code, &dry),
+             (OF_FONT, STRUCT(thk_char_code), uint64_t, STRUCT(thk_page_numbers)), font, len, GIVE(*rec), GIVE(code),
+             c->len, GIVE(numbers));
+        break;
     case UNPACK_GLYPH:
         CALL(thk_unpack_answer, unpack_glyph, thk_unpack_glyph(font, len, rec, info, &cells),
              (OF_FONT, STRUCT(thk_glyph_info), uint8_t *, uint64_t, STRUCT(thk_page_numbers)), font, len, GIVE(*rec),

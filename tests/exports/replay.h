@@ -7,7 +7,7 @@
 #include <stdint.h>
 
 enum kind { LOAD, LOAD_STRICT, VET, PROPERTY, GLYPH, NAME, METRICS, ACCEL, DIMENSIONS, PREP_CHAR, DRAW_BITMAP,
-            DRAW_GLYPH, DRAW_CHAR, UNPACK_GLYPH, DRAW_STRING, TEXT_CHECK, UTF8_STEP, KINDS };
+            DRAW_GLYPH, DRAW_CHAR, WHY, UNPACK_GLYPH, DRAW_STRING, TEXT_CHECK, UTF8_STEP, KINDS };
 
 /* What a call is lent, and last what the first of two calls left of the buffer. */
 enum object { RECORD, FONT, TEXT, BUFFER, LEFT, OBJECTS };

@@ -3,6 +3,7 @@ import collections
 import itertools
 import os
 
+import model
 from common import TESTS
 from exports import cases, formats, layouts
 from exports.asked import all_asked
@@ -10,6 +11,7 @@ from exports.machine import fail, must
 from native import library
 
 REFUSAL, PLACE = ("refusal",), ("place",)  # where they stand in every answer
+REASON = ("reason", "number")
 SOURCE, SYSTEM = (os.path.join(TESTS, "exports", name) for name in ("replay.c", "linux.c"))
 
 
@@ -28,6 +30,10 @@ def replay(at, folder):
     for name in cases.KINDS:
         refused = ", ".join("%d: %d" % (n, seen[of, n]) for of, n in sorted(seen) if of == name and n)
         print("%s: %d answers, refused %s" % (name, seen[name, 0], refused))
+    told = collections.Counter(want[REASON] for kind, want, _ in wanted if kind == "WhyAnswer" and want[REFUSAL] == 0)
+    if set(told) != set(model.REASONS):
+        fail("no call of thk_why has the reasons %s" % sorted(set(model.REASONS) - set(told)))
+    print("thk_why: reasons %s" % ", ".join("%d: %d" % (n, told[n]) for n in model.REASONS))
     changed = set(formats.one_bit())
     print("exports: %d fonts with one bit of a format word changed: %d load, and %d strictly" % (
         len(changed), taken(changed, "thk_load"), taken(changed, "thk_load_strict")))

@@ -5,7 +5,7 @@ import re
 
 from common import ROOT, read, run
 from exports import layouts
-from exports.header import c_refusals, c_words
+from exports.header import c_reason_words, c_reasons, c_refusals, c_words, of_source
 from exports.machine import ARCHIVE, fail, must
 from native import library
 
@@ -16,7 +16,7 @@ BUILT = os.path.join(ROOT, "target", "rust")
 
 
 def declarations():
-    """the crate's prototypes are the sources', and its refusals and their words the header's"""
+    """the crate's prototypes are the sources', and its refusals, reasons, words and limits the header's"""
     listed = re.search(r"^calls! \{$(.*?)^\}$", read("bindings", "rust", "src", "calls.rs"), re.M | re.S)[1]
     prototypes = {("thalluskin_" + name, parameters, answer) for name, parameters, answer in re.findall(
         r"^    fn (\w+)\((.*)\) -> (\w+);$", listed, re.M)}
@@ -29,6 +29,15 @@ def declarations():
     words = {dict(constants)[name]: said for name, said in re.findall(r'Refusal::(\w+) => \{?\s*"(.*)"', refusal)}
     if {0: c_words()[0], **words} != c_words():
         fail("the Rust crate's words are not the header's: %s" % sorted(set(words.items()) ^ set(c_words().items())))
+    reason = read("bindings", "rust", "src", "reason.rs")
+    numbers = [(of_source(name), int(n)) for n, name in re.findall(r"^ +(\d+) => Reason::(\w+)", reason, re.M)]
+    if numbers != c_reasons():
+        fail("the Rust crate's reasons are not the header's: %s" % sorted(set(numbers) ^ set(c_reasons())))
+    words = re.findall(r'Reason::(\w+)(?:\(_\))? => "(.*)"', reason)
+    words = {dict(numbers)[of_source(name)]: said for name, said in words}
+    if words != c_reason_words():
+        fail("the Rust crate's words of reasons are not the header's: %s" % sorted(
+            set(words.items()) ^ set(c_reason_words().items())))
     limits = re.findall(r"^pub const (MAX_\w+): u64 = ([\d_]+);", read("bindings", "rust", "src", "page.rs"), re.M)
     limits = [(name, n.replace("_", "")) for name, n in limits]
     in_c = re.findall(r"\bTHK_(MAX_\w+) UINT64_C\((\d+)\)", read("include", "thalluskin.h"))
@@ -156,5 +165,5 @@ def rust(folder, archive):
         print("exports: Rust: not compiled for %s, whose core is not installed" % ", ".join(lacking))
     scripts = build_script(folder)
     print("exports: Rust: %d unit tests %s, %d doc tests, %d other targets, %d tries of the build script, %s; its "
-          "structs, declarations, refusals, words and limits are the sources' or the header's" % (
+          "structs, declarations, refusals, reasons, words and limits are the sources' or the header's" % (
               counts[0], shapes, counts[1], checked, scripts, linted))

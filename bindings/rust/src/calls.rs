@@ -123,6 +123,7 @@ calls! {
     fn draw_bitmap(bytes: &[u8], rec: Record, bitmap: Bitmap, buf: &mut [u32], page: PageNumbers) -> RowsAnswer;
     fn draw_glyph(bytes: &[u8], rec: Record, info: GlyphInfo, buf: &mut [u32], page: PageNumbers) -> RowsAnswer;
     fn draw_char(bytes: &[u8], rec: Record, code: CharCode, buf: &mut [u32], page: PageNumbers) -> CharAnswer;
+    fn why(bytes: &[u8], rec: Record, code: CharCode, len: u64, page: PageNumbers) -> WhyAnswer;
     fn unpack_glyph(bytes: &[u8], rec: Record, info: GlyphInfo, buf: &mut [u8], page: PageNumbers) -> UnpackAnswer;
     fn draw_string(bytes: &[u8], rec: Record, text: &[u8], buf: &mut [u32], page: PageNumbers) -> TextAnswer;
     fn text_check(bytes: &[u8], rec: Record, text: &[u8], len: u64, page: PageNumbers) -> TextAnswer;

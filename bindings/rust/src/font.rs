@@ -1,7 +1,7 @@
 use crate::calls;
 use crate::page::{Cells, Drawing, Page};
 use crate::structs::*;
-use crate::{Refusal, PLAIN};
+use crate::{Reason, Refusal, PLAIN};
 
 /// A font: the bytes of its file, and the record that loading gave for them.
 ///
@@ -367,6 +367,26 @@ impl<'a> Font<'a> {
     pub fn draw_char(&self, code: impl Into<CharCode>, page: &mut Page<'_>) -> Result<(GlyphInfo, Rows), Refusal> {
         let a = calls::draw_char(self.bytes, self.record, code.into(), page.pixels, page.drawing.numbers());
         answer(a.refusal, a.place, (a.info, a.rows))
+    }
+
+    /// Why [`Font::draw_char`] leaves a gap where a character should be, or does not, on a page of `len` pixels: one
+    /// [`Reason`], the first in their order that is true of the font, the code and the page. The first four are those
+    /// for which `draw_char` is refused 9. Refused 6, 15.
+    ///
+    /// ```
+    /// # use thalluskin::{Drawing, Font, Reason, Refusal};
+    /// # let file = include_bytes!("../../../examples/f.pcf");
+    /// let font = Font::vet(file)?; // its glyphs, of 0 and 1, are 3 by 3
+    /// assert_eq!(font.why('2', 9, Drawing::new(3))?, Reason::SecondByte);
+    /// assert_eq!(font.why('1', 9, Drawing::new(3))?, Reason::Drawn);
+    /// assert_eq!(font.why('1', 9, Drawing::new(3).start(1))?, Reason::RowsCut(1));
+    /// assert_eq!(font.why('1', 9, Drawing::new(0)).unwrap_err().number, Refusal::BAD_ARGUMENT);
+    /// # Ok::<(), thalluskin::Refusal>(())
+    /// ```
+    pub fn why(&self, code: impl Into<CharCode>, len: u64, drawing: Drawing) -> Result<Reason, Refusal> {
+        let a = calls::why(self.bytes, self.record, code.into(), len, drawing.numbers());
+        let told = answer(a.refusal, a.place, a.reason)?;
+        Reason::of(told).ok_or(Refusal { number: 0, place: 0 })
     }
 
     /// Stores 1 for each set bit of every whole row byte of a placed glyph, columns past its width included, and

@@ -52,6 +52,7 @@ layouts! {
     PageNumbers { start, stride, scale, wrap, colour, mode }
     GlyphInfo { glyph, width, height, pad_top, pad_left }
     Rows { drawn, dropped }
+    ReasonNumber { number, cut }
     TextRows { height, dropped }
     Span { start, len }
     FontAnswer { refusal, place, rec }
@@ -64,6 +65,7 @@ layouts! {
     InfoAnswer { refusal, place, info }
     RowsAnswer { refusal, place, rows }
     CharAnswer { refusal, place, info, rows }
+    WhyAnswer { refusal, place, reason }
     UnpackAnswer { refusal, place, rows }
     TextAnswer { refusal, place, rows }
     StepAnswer { refusal, place, found, code, next }

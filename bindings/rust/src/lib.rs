@@ -28,6 +28,7 @@ mod font;
 #[cfg(test)]
 mod layout;
 mod page;
+mod reason;
 mod refusal;
 mod structs;
 #[cfg(test)]
@@ -35,6 +36,7 @@ mod tests;
 
 pub use font::{utf8_step, version, Font, Property, Value, VERSION};
 pub use page::{Cells, Drawing, Page, MAX_BOX, MAX_SCALE, MAX_START, MAX_STRIDE, MAX_TEXT};
+pub use reason::Reason;
 pub use refusal::Refusal;
 pub use structs::{
     Accelerators, Bitmap, BitmapData, CharCode, EncodingData, Extent, GlyphIndex, GlyphInfo, GlyphNameData, Metrics,

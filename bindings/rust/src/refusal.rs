@@ -15,7 +15,7 @@ use core::fmt;
 #[derive(Clone, Copy, Debug, PartialEq, Eq)]
 pub struct Refusal {
     /// Which one it is, 1 to 19 or 27: one of the constants below. It would be 0 only if an answer pointed outside the
-    /// font's bytes, which the proofs exclude.
+    /// font's bytes or named no reason, which the proofs exclude.
     pub number: u32,
     /// Where.
     pub place: u64,
@@ -77,7 +77,7 @@ impl Refusal {
     /// ```
     pub fn reason(&self) -> &'static str {
         match self.number {
-            0 => "the library's answer points outside the font's bytes",
+            0 => "the library's answer is none that it can give",
             Refusal::FILE_SHORT => "file under 8 bytes",
             Refusal::NOT_PCF => "first four bytes not 01 66 63 70",
             Refusal::MANY_ENTRIES => "over 64 directory entries",

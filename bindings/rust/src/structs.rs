@@ -298,6 +298,15 @@ pub(crate) struct Span {
     pub len: u64,
 }
 
+// A reason's number, and how many rows were cut.
+#[repr(C)]
+#[cfg_attr(test, derive(Default))]
+#[derive(Clone, Copy)]
+pub(crate) struct ReasonNumber {
+    pub number: u32,
+    pub cut: u16,
+}
+
 // The answers: a refusal's number or 0, its place, and the values.
 
 #[repr(C)]
@@ -382,6 +391,14 @@ pub(crate) struct CharAnswer {
     pub place: u64,
     pub info: GlyphInfo,
     pub rows: Rows,
+}
+
+#[repr(C)]
+#[cfg_attr(test, derive(Default))]
+pub(crate) struct WhyAnswer {
+    pub refusal: u32,
+    pub place: u64,
+    pub reason: ReasonNumber,
 }
 
 #[repr(C)]

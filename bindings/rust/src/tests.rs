@@ -133,6 +133,7 @@ fn a_record_of_another_font() {
     assert_eq!(number(font.metrics(GlyphIndex(0))), Refusal::BAD_TABLE);
     assert_eq!(number(font.accelerators()), Refusal::BAD_TABLE);
     assert_eq!(number(font.draw_char('0', &mut Page::new(&mut [0; 9], 3))), Refusal::BAD_TABLE);
+    assert_eq!(number(font.why('0', 9, Drawing::new(3))), Refusal::BAD_TABLE);
 }
 
 // they are parts of the file's bytes, and outlive the font
@@ -206,6 +207,66 @@ fn a_glyph_without_a_bitmap() {
     // it moves the pen all the same
     assert_eq!(font.draw("10", &mut page.wrap(7)), Ok(TextRows { height: 3, dropped: 1 }));
     assert_eq!(pixels, [0, 0, 0, 1, 1, 1, 0, 0, 0, 1, 0, 1, 0, 0, 0, 0, 0, 0]);
+}
+
+// F, whose record or bytes have one fault more each time, from what is looked at last to what is looked at first
+#[test]
+fn every_reason() {
+    let usual = *Font::vet(F).unwrap().record();
+    let why = |file: &[u8], record, code: u32, len, drawing| {
+        Font::with_record(file, record).why(CharCode(code), len, drawing).unwrap()
+    };
+    let one = |file: &[u8], record, len| why(file, record, 0x31, len, Drawing::new(3));
+    assert_eq!(one(F, usual, 9), Reason::Drawn);
+    assert_eq!(one(F, usual, u64::MAX), Reason::Drawn);
+    let bits = usual.bitmaps.bits;
+    let blank = with_bytes(F, &[(bits + 3, 0), (bits + 4, 0), (bits + 5, 0)]);
+    assert_eq!(one(&blank, usual, 9), Reason::Blank);
+    for (len, rows) in [(8, 1), (3, 2), (0, 3)] {
+        assert_eq!(one(&blank, usual, len), Reason::RowsCut(rows));
+    }
+    let large = Drawing::new(6).scale(2);
+    assert_eq!(why(F, usual, 0x30, 24, large), Reason::BufferShort);
+
+    let mut record = usual;
+    record.bitmaps.size = 5; // without the last row of 1
+    assert_eq!(one(F, record, 9), Reason::BitmapShort);
+    assert_eq!(one(F, record, 8), Reason::RowsCut(1));
+    record.bitmaps.unit = 3;
+    assert_eq!(one(F, record, 9), Reason::BitOrder);
+    record.bitmaps.count = 1;
+    assert_eq!(one(F, record, 9), Reason::NoBitmap);
+    record.accel.maxbounds.ascent = 2;
+    assert_eq!(one(F, record, 9), Reason::BadMetrics);
+    record.metrics.count = 1;
+    assert_eq!(one(F, record, 9), Reason::NoMetrics);
+    let empty = with_bytes(F, &[(record.codes.entries + 2, 255), (record.codes.entries + 3, 255)]);
+    assert_eq!(one(&empty, record, 9), Reason::EmptyEntry);
+    assert_eq!(why(&empty, record, 0x32, 9, Drawing::new(3)), Reason::SecondByte);
+    (record.codes.low1, record.codes.high1) = (1, 1);
+    assert_eq!(one(&empty, record, 9), Reason::FirstByte);
+    assert_eq!(why(&empty, record, 0x131, 9, Drawing::new(3)), Reason::EmptyEntry);
+    assert_eq!(why(&empty, record, 0x1_0131, 9, Drawing::new(3)), Reason::AboveCodes);
+}
+
+// those that are refusals have the refusals' words
+#[test]
+fn every_reason_has_its_words() {
+    let told = |number| Reason::of(structs::ReasonNumber { number, cut: 7 });
+    let mut all = Vec::new();
+    for number in 0..100 {
+        if let Some(reason) = told(number) {
+            assert!(!all.contains(&reason.words()));
+            all.push(reason.words());
+            if number < 31 {
+                assert_eq!(reason.words(), Refusal { number, place: 0 }.reason());
+            }
+            let more = if reason == Reason::RowsCut(7) { ": 7" } else { "" };
+            assert_eq!(reason.to_string(), format!("{}{}", reason.words(), more));
+        }
+    }
+    assert_eq!(all.len(), 13);
+    assert_eq!((told(0), told(Refusal::NO_GLYPH), told(Refusal::BAD_ARGUMENT), told(38)), (None, None, None, None));
 }
 
 // F with the lowest bit leftmost, and its rows in two-byte units whose low byte comes first, draw the same pixels
@@ -291,11 +352,12 @@ fn a_mode_that_there_is_not() {
             number(font.draw_bitmap(whole, page)),
             number(font.draw_glyph(nil, page)),
             number(font.draw_char('0', page)),
+            number(font.why('0', 24, page.drawing)),
             number(font.draw("0", page)),
             number(font.check("0", 24, page.drawing)),
             number(font.unpack_glyph(nil, &mut Cells::new(&mut bytes, 6).mode(mode))),
         ];
-        assert_eq!(refused, [Refusal::BAD_ARGUMENT; 6]);
+        assert_eq!(refused, [Refusal::BAD_ARGUMENT; 7]);
     }
     assert_eq!((pixels, bytes), ([5; 24], [5; 24]));
 }
