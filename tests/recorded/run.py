@@ -26,7 +26,7 @@ NOTHING = {"load_pcf": 2, "prop_at": 17, "get_glyph": 9, "get_name": 17, "get_me
 # how many of the numbers that the port answers are 000's too: rows drawn and dropped are the port's own
 COMMON = {"draw_bitmap": 0, "draw_glyph": 0, "draw_char": 5, "unpack_glyph": 0, "draw_string": 1}
 THEIRS = re.compile(r"(\w+) +(%s)((?: -?\d+)*)(?:; pixels (none|[\d,-]+))?" % "|".join(OUTCOMES))
-OURS = re.compile(r"(\w+) +([^;]+)(?:; dry run ([^;]+); pixels (none|[\d,-]+))?")
+OURS = re.compile(r"(\w+) +([^;]+)(?:; dry run ([^;]+); pixels (none|[\d,-]+))?(?:; why [^;]+)?")
 REFUSED = re.compile(r"refused (\d+) at (\d+)")
 
 

@@ -1,6 +1,7 @@
 #!/usr/bin/env python3
 """Holds crates/replay/stdout, which the program must write, to what the model of document 01 says of each
-call in the files of crates/replay/data; and the files to what make.py makes.
+call in the files of crates/replay/data; and the files to what make.py makes. Of a character the model tells a reason
+too, which has to be one that its answer to drawing leaves.
 
 With --write the data, the arguments and the output are stored anew."""
 import collections
@@ -44,6 +45,7 @@ PUTTING = {
     "put_refused": [15],
     "fill_bytes": [15, 20],
 }
+WITHOUT_GLYPH = (31, 32, 33, 34)  # the reasons for what drawing refuses with 9
 
 
 # ---- what the model answers
@@ -85,6 +87,32 @@ def asked(b, rec, c):
     if isinstance(seen, int):
         raise model.Refused(seen)
     return row_words(*seen[:2]), seen[2]
+
+
+def place_of(c):
+    return [c[name] for name in ("len", "start", "stride", "scale")]
+
+
+def reason(b, rec, c):
+    """of a character: the number of the reason, or of the refusal to tell one; rows cut; both in words"""
+    try:
+        number, cut = model.why(b, rec, c["code"], *place_of(c))
+    except model.Refused as r:
+        return r.number, 0, str(r)
+    return number, cut, "%d, cut %d" % (number, cut)
+
+
+def left_by_drawing(b, rec, c):
+    """the reasons that are left by what draw_char answers to the same call, and how many rows are cut"""
+    try:
+        (info, _, dropped), pixels = model.char_check(b, rec, c["code"], *place_of(c))
+    except model.Refused as r:
+        return WITHOUT_GLYPH if r.number == 9 else (r.number,), 0
+    if info["glyph"] >= rec["bitmaps"]["count"]:
+        return (12,), 0
+    if dropped > 0:
+        return (35,), dropped
+    return (37 if pixels else 36,), 0
 
 
 def runs(places):
@@ -179,6 +207,15 @@ def line(b, rec, c, colour):
     return "%-12s %s; dry run %s; pixels %s" % (c["call"], words, words, runs(places)), number
 
 
+def why_words(b, rec, c, seen):
+    number, cut, words = reason(b, rec, c)
+    left, dropped = left_by_drawing(b, rec, c)
+    if number not in left or cut != dropped:
+        fail("the model's reason is %s, its drawing leaves %s with %d rows cut: %s" % (words, left, dropped, c))
+    seen["why", number] += 1
+    return words
+
+
 def lines(b, of_font, seen):
     """what is written of a font; counts what its calls answer"""
     yield "font of %d bytes" % len(b)
@@ -190,8 +227,11 @@ def lines(b, of_font, seen):
         # no call is made then but strict loading, where that is the first
         loaded, of_font = None, [c for c in of_font[:1] if c["call"] == "load_strict"]
     for k, c in enumerate(of_font):
-        text, number = line(b, model.changed(loaded, c.get("rec", {})), c, calls.colour(c, k))
+        rec = model.changed(loaded, c.get("rec", {}))
+        text, number = line(b, rec, c, calls.colour(c, k))
         seen[c["call"], number] += 1
+        if c["call"] == "draw_char":
+            text += "; why " + why_words(b, rec, c, seen)
         yield text
 
 
@@ -222,6 +262,16 @@ def check_refusals(seen, refused):
             call, seen[call, 0], ", ".join("%d: %d" % (number, seen[call, number]) for number in numbers) or "never"))
 
 
+def check_reasons(seen):
+    """every reason is given, and telling one is refused with 6 and 15"""
+    told = {number: seen["why", number] for number in (6, 15, *model.REASONS)}
+    lacks = [number for number, count in told.items() if count == 0]
+    if lacks or sum(told.values()) != counted(seen, ["why"]):
+        fail("no reason is %s, of %s" % (lacks, told))
+    print("why: refused 6: %d, 15: %d; reasons in their order %s" % (
+        told.pop(6), told.pop(15), ", ".join("%d: %d" % each for each in told.items())))
+
+
 def counted(seen, kinds):
     return sum(count for (call, _), count in seen.items() if call in kinds)
 
@@ -234,17 +284,18 @@ def main():
     check_refusals(seen[0], DRAWING)
     check_refusals(seen[1], READING)
     check_refusals(seen[2], PUTTING)
+    check_reasons(seen[0])
     write, files = sys.argv[1:] == ["--write"], make.files()
     if write:
         stored.store_data("replay", files)
     stored.hold_data("replay", files)
     stored.hold(want, write)
     print("replay: %d calls that draw in %d files, %d that read in %d, %d that put bytes or check a text in %d and %d "
-          "recorded ones in %d are as made, and the output agrees with the model; one font in %d orders has one answer "
-          "to each call" % (
+          "recorded ones in %d are as made, and the output agrees with the model; the reasons of %d characters are "
+          "such as drawing's answer leaves; one font in %d orders has one answer to each call" % (
               counted(seen[0], DRAWING), len(drawn), counted(seen[1], READING), len(read),
               counted(seen[2], PUTTING), len(put_in), counted(seen[3], {**DRAWING, **READING}), len(recorded),
-              one_picture(drawn)))
+              counted(seen[0], ["why"]) + counted(seen[3], ["why"]), one_picture(drawn)))
 
 
 if __name__ == "__main__":

@@ -140,6 +140,10 @@ def extremes():
     yield prep(0x43)
     yield prep(0x44)
     yield char(0x44, 4096, 1)
+    # the widest and the highest glyph whole, and with the data moved, so that they have no set bit or one
+    bits = model.load(large())["bitmaps"]["bits"]
+    for code, length in ((0x42, 65533), (0x42, 65532), (0x43, 32767), (0x43, 32766)):
+        yield from (but(char(code, length, 1), bitmaps__bits=bits + moved) for moved in (-1, 0, 1, 2))
     # a block of 64 by 64 pixels at the end of 4,096
     for length in (4095, 4096):
         yield bitmap(0, 1, 1, length, 64, 64)
@@ -272,15 +276,15 @@ def drawn_by_lot(seed, b, count):
         yield but(call, len=min(MOST, max(0, length)))
 
 
-def of_definitions():
-    """the cases beside the model that draw, a font after the other"""
+def of_definitions(kinds):
+    """the cases beside the model that make these calls, a font after the other"""
     with open(os.path.join(CASES, "fonts.txt"), encoding="ascii") as f:
         listed = [bytes.fromhex(line.strip()) for line in f]
     with open(os.path.join(CASES, "cases.jsonl"), encoding="ascii") as f:
         cases = [json.loads(line) for line in f]
     for number, b in enumerate(listed):
         # a record of another font is no record that this one's loading gives
-        calls = [c for c in cases if c["call"] in DRAWING and "text" not in c and c["font"] == number and "of" not in c]
+        calls = [c for c in cases if c["call"] in kinds and "text" not in c and c["font"] == number and "of" not in c]
         if calls:
             yield b, calls
 
@@ -302,7 +306,7 @@ def few_codes():
 def topics():
     f = two_digits()
     yield "marked", [(f, marked())]
-    yield "definitions", of_definitions()
+    yield "definitions", of_definitions(DRAWING)
     yield "lengths", [(f, lengths())]
     yield "records", [(f, records())]
     yield "refusals", [(f, refusals())]

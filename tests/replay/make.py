@@ -1,7 +1,7 @@
 """The files of crates/replay/data: fonts, and calls on each."""
 from fonts import questions as reading
 from recorded import questions as recorded_ones
-from replay import glyphs, lines, orders, texts
+from replay import glyphs, lines, orders, reasons, texts
 from replay.calls import content
 
 
@@ -11,7 +11,7 @@ def named(topics):
 
 
 def drawn():
-    return named([*glyphs.topics(), *texts.topics(), *orders.topics()])
+    return named([*glyphs.topics(), *texts.topics(), *orders.topics(), *reasons.topics()])
 
 
 def read():

@@ -12,6 +12,8 @@ use place::Prepared;
 use text::TextDrawn;
 use utf8::Checked;
 use utf8::Step;
+use why::Told;
+use why::reason_number;
 
 fn row_words(rows: Rows) {
     say_with(
@@ -49,6 +51,16 @@ pub(crate) fn char_drawn(answer: CharDrawn) {
             row_words(rows);
         }
         CharDrawn::Refused(r) => refusal(r),
+    }
+}
+
+pub(crate) fn because(answer: Told) {
+    match answer {
+        Told::Because(reason) => {
+            let told = reason_number(reason);
+            say_with(b"#, cut #", &[told.number as usize, told.cut as usize]);
+        }
+        Told::Refused(r) => refusal(r),
     }
 }
 

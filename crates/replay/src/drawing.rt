@@ -1,4 +1,5 @@
 // The calls that draw: as a dry run, whose buffer may be longer than any, and with a buffer lent to them.
+use crate::answers::because;
 use crate::answers::char_drawn;
 use crate::answers::drawn;
 use crate::answers::text_drawn;
@@ -165,8 +166,22 @@ fn with_bytes(font: &[u8], rec: Record, c: &[u8], buf: &mut [u8]) {
     told_bytes(buf, colour_at(c));
 }
 
+// Why a character is on the glass or not, in a buffer of any length.
+fn reason(font: &[u8], rec: Record, c: &[u8]) {
+    say(b"; why ");
+    because(why::why(
+        font,
+        rec,
+        code_at(c),
+        size_at(c, 32),
+        size_at(c, 40),
+        size_at(c, 48),
+        size_at(c, 56),
+    ));
+}
+
 // The call with the buffer's first part lent to it, its dry run, and what changed in the whole buffer. Where there is
-// no buffer of that length, the dry run alone.
+// no buffer of that length, the dry run alone. Of a character the reason too.
 pub(crate) fn drawing(font: &[u8], rec: Record, c: &[u8], text: &[u8]) {
     if kind_at(c) == UNPACK {
         let mut bytes = [0u8; 4096];
@@ -174,5 +189,8 @@ pub(crate) fn drawing(font: &[u8], rec: Record, c: &[u8], text: &[u8]) {
     } else {
         let mut pixels = [0u32; 4096];
         with_pixels(font, rec, c, text, &mut pixels);
+    }
+    if kind_at(c) == CHAR {
+        reason(font, rec, c);
     }
 }

@@ -1,7 +1,7 @@
 // Makes the calls of each file that an argument names, and writes a line for each: what it answers and, of a call that
-// draws, what its dry run answers and the pixels that changed; of one that puts bytes into a buffer, the buffer. A file
-// has one font after the other: how many bytes it has, how many bytes of texts follow it, and how many calls there are,
-// 4 bytes each; then the font, the texts and the calls.
+// draws, what its dry run answers and the pixels that changed, with the reason for that where it draws a character; of
+// one that puts bytes into a buffer, the buffer. A file has one font after the other: how many bytes it has, how many
+// bytes of texts follow it, and how many calls there are, 4 bytes each; then the font, the texts and the calls.
 mod answers;
 mod calls;
 mod changes;
