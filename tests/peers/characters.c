@@ -32,7 +32,7 @@ static bool out_of_range(const struct font *f, FT_GlyphSlot slot)
            || slot->bitmap_top > f->rec.accel.maxbounds.ascent;
 }
 
-static size_t row_bytes(const struct font *f, size_t width)
+size_t row_bytes(const struct font *f, size_t width)
 {
     size_t pad = f->rec.bitmaps.pad;
 
@@ -69,9 +69,7 @@ static bool data_ends(const struct font *f, FT_GlyphSlot slot, size_t glyph)
            && offset(f, glyph) + (rows - 1) * row_bytes(f, width) + held_bytes(f, width) > f->rec.bitmaps.size;
 }
 
-/* The number with which vetting refuses the code's glyph, or 0. In fonts that FreeType reads each glyph has metrics and
- * a bitmap; names are compared elsewhere. */
-static uint32_t fault(const struct font *f, FT_GlyphSlot slot, size_t glyph)
+uint32_t fault(const struct font *f, FT_GlyphSlot slot, size_t glyph)
 {
     if (out_of_range(f, slot))
         return THK_BAD_METRICS;

@@ -71,6 +71,17 @@ void put(struct page p, const FT_Bitmap *of, size_t top, size_t left, size_t cut
                 p.pixels[(top + row) * p.stride + left + column] = SET;
 }
 
+bool any_set(const FT_Bitmap *of, size_t cut)
+{
+    size_t row, column;
+
+    for (row = 0; row < of->rows; row++)
+        for (column = 0; column < cut; column++)
+            if (bit(of, row, column))
+                return true;
+    return false;
+}
+
 static void dots(const char *of, struct page p)
 {
     size_t i;

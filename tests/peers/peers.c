@@ -1,7 +1,7 @@
 /* Reads fonts with FreeType and with the library, and compares all that both answer: properties, accelerators, the
- * glyph of every code, metrics, bitmaps, characters and texts drawn, vetting. FreeType does not read the names of
- * glyphs; those that are given with a font are compared. A font that both read has to load strictly too, and
- * not with a bit of a table's own format changed.
+ * glyph of every code, metrics, bitmaps, characters and texts drawn, why each code is drawn or not, vetting. FreeType
+ * does not read the names of glyphs; those that are given with a font are compared. A font that both read has to load
+ * strictly too, and not with a bit of a table's own format changed.
  *
  * Standard input has for each font three lengths, eight bytes each as the machine has them, then the font's name, its
  * bytes, and lines of a code and its glyph's name. Standard output has the first differences, for each vetted font a
@@ -90,6 +90,7 @@ static void font(FT_Library library, const char *name, uint8_t *bytes, size_t le
             glyph(&f, (thk_glyph_index){(uint16_t)k}, k + 1);
         glyph(&f, copied(&f), 0);
         codes(&f);
+        reasons(&f);
         bounds(&f);
         vetting(&f);
         dump(&f);
@@ -136,5 +137,7 @@ int main(void)
     FT_Done_FreeType(library);
 #define SAY(name) printf("= " #name " %lu\n", count.name);
     COUNTED(SAY)
+#define SAY_WHY(number) printf("= why_" #number " %lu\n", count.why_##number);
+    REASONS(SAY_WHY)
     return count.differences > 0;
 }

@@ -44,11 +44,16 @@ struct font {
     C(fonts) C(neither) C(strictly) C(two_formats) C(long_metrics) C(padded_to_8) C(usual) C(bounds) C(vetted)         \
     C(refused_11) C(refused_13) C(refused_14) C(numbers) C(strings) C(repeated) C(with_glyph) C(without_glyph)         \
     C(metrics) C(bitmaps) C(empty) C(not_drawn) C(defaults) C(no_default) C(characters) C(cut) C(wider)                \
-    C(out_of_range) C(other_rows) C(texts) C(letters) C(names) C(differences)
+    C(out_of_range) C(other_rows) C(texts) C(letters) C(names) C(differences) C(why_of_other_rows)
+
+/* The reasons that a code can have on a page with room for it, in a font that FreeType reads. */
+#define REASONS(C) C(31) C(32) C(33) C(34) C(11) C(13) C(14) C(36) C(37)
 
 #define FIELD(name) unsigned long name;
+#define WHY(number) unsigned long why_##number;
 extern struct counts {
     COUNTED(FIELD)
+    REASONS(WHY)
 } count;
 
 void fail(const char *what);
@@ -80,6 +85,9 @@ thk_page drawable(struct page p);
 /* Colours FreeType's bitmap on a page, but for columns from `cut` on. */
 void put(struct page p, const FT_Bitmap *of, size_t top, size_t left, size_t cut);
 
+/* Whether FreeType's bitmap has a set bit in its rows before the column `cut`, which may lie past its box. */
+bool any_set(const FT_Bitmap *of, size_t cut);
+
 /* Whether the pages are the same but for their columns from `past` up to `end`; gives back the first. */
 bool same_pages(const struct font *f, struct page ours, struct page peers, size_t past, size_t end, const char *what,
                 long number);
@@ -95,6 +103,9 @@ void vetting(const struct font *f);
 void names(const struct font *f, char *lines);
 
 /* ---- strict.c */
+
+/* Four bytes as a number, the least significant first. */
+uint32_t word(const uint8_t *at);
 
 /* Counts a font that loads strictly with the record that loading gave. */
 void strict_loading(const struct font *f);
@@ -121,9 +132,21 @@ thk_glyph_index copied(const struct font *f);
 
 size_t larger(size_t a, size_t b);
 
+/* How many bytes a row takes in the bitmap data. */
+size_t row_bytes(const struct font *f, size_t width);
+
+/* The number with which vetting refuses the code's glyph, or 0. In fonts that FreeType reads each glyph has metrics and
+ * a bitmap; names are compared elsewhere. */
+uint32_t fault(const struct font *f, FT_GlyphSlot slot, size_t glyph);
+
 /* A character placed, drawn and unpacked, where the rows of FreeType's bitmap and of the library's are the same bytes.
  * Whether it may stand in a text: is drawn, and as wide as its box. */
 bool character(struct font *f, uint32_t code);
+
+/* ---- reasons.c */
+
+/* Counts why each code is drawn or not. */
+void reasons(const struct font *f);
 
 /* ---- dumps.c */
 

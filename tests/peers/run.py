@@ -2,7 +2,9 @@
 """Reads every font of Debian's xfonts-base, xfonts-terminus and xfonts-unifont with the library and with FreeType, and
 compares all that both answer (peers.c). FreeType does not read the names of glyphs: those are compared with the ones
 that pcf2bdf writes. Each of these fonts, and of those that follow, has to load strictly, with the record that it loads
-with, and to be refused 27 for each known table, if a bit of that table's own format is changed.
+with, and to be refused 27 for each known table, if a bit of that table's own format is changed. And each code has to
+have the reason on a page without end that is left by the bounds in the file's code table and by FreeType, which tells
+whether there is a glyph, its metrics and its bitmap (reasons.c).
 
 All those fonts have one format. So bdftopcf writes each a second time, by turns in every format that it can: row pad,
 bit order, byte order and scan unit; the tests' own writer then pads some rows to 8 bytes. One in four has a last glyph
@@ -19,7 +21,8 @@ What FreeType does in its own way, and how that is met:
 - it turns the bits of a row's bytes and swaps a unit's bytes where bit and byte order differ, over all of a glyph's
   bytes: that is what document 02 says of units, as long as they are not wider than the row pad;
 - its bitmaps are as wide as the glyph's box, those of document 01 as the character. In the box every glyph is compared,
-  with draw_bitmap; as a character one whose rows take the same bytes in both, but for columns past its box;
+  with draw_bitmap; as a character one whose rows take the same bytes in both, but for columns past its box. Whether it
+  is blank is compared in these columns too, since FreeType's rows have them; one without a width always is;
 - its number properties have a sign; 32 bits are compared;
 - of two properties with one name it answers the first."""
 import glob
@@ -44,6 +47,7 @@ from pcf.rewriting import bitmap_format, by_box, reordered, with_bitmap_format  
 FONTS = ["xfonts-base", "xfonts-terminus", "xfonts-unifont"]
 HEADERS = "/usr/include/freetype2"
 KINDS = 6  # of known tables, which a font has at least once each
+CODES = 65536 + 1024  # that are asked for of each font, as peers.h has it
 
 # bdftopcf's options: row pad, bit order, byte order, scan unit
 FORMATS = ["-p%d -%s -%s -u%d" % (pad, bits, order, unit)
@@ -240,20 +244,36 @@ bitmaps' offsets have it, with the code
     characters: {characters} drawn and unpacked; {cut} of them are cut at a width below the box's, {wider} are wider, \
 their columns past the box not compared
     characters skipped: {out_of_range} refused 11, {other_rows} whose rows take other bytes than the box's
+    reasons: {why_31} codes above 65,535, {why_32} outside the first-byte bounds, {why_33} outside the second-byte \
+ones, {why_34} empty entries; 11 {why_11}, 13 {why_13}, 14 {why_14}; {why_36} blank, {why_37} drawn, of which \
+{why_of_other_rows} may be either, as their rows take other bytes than the box's
     texts: {texts} with {letters} letters
     names: {names}
     differences: {differences}"""
 
 
-def report(what, count, given):
-    """what was counted of so many fonts given"""
-    for name in ("fonts", "bounds", "vetted", "numbers", "strings", "with_glyph", "bitmaps", "characters", "texts"):
+def checked_reasons(what, count):
+    """every code of every font has a reason, and hardly any glyph is one whose bitmap is not compared"""
+    without, having = (sum(count["why_%d" % number] for number in numbers) for numbers in (
+        (31, 32, 33, 34), (11, 13, 14, 36, 37)))
+    if (without, having) != (count["without_glyph"], count["with_glyph"]) or without + having != CODES * count["fonts"]:
+        fail("%s: %d reasons of codes without a glyph and %d of others, %s" % (what, without, having, count))
+    if 100 * count["why_of_other_rows"] > count["with_glyph"]:
+        fail("%s: whether a glyph is blank is not compared in %d of %d" % (
+            what, count["why_of_other_rows"], count["with_glyph"]))
+
+
+def report(what, count, given, *more):
+    """what was counted of so many fonts given; some of `more` has to be there too"""
+    for name in ("fonts", "bounds", "vetted", "numbers", "strings", "with_glyph", "bitmaps", "characters", "texts",
+                 "why_31", "why_33", "why_34", "why_36", "why_37", *more):
         if count[name] == 0:
             fail("%s: nothing was compared, %s" % (what, count))
     if count["strictly"] != given:
         fail("%s: %d of %d load strictly" % (what, count["strictly"], given))
     if count["two_formats"] < KINDS * given:
         fail("%s: a bit was changed in %d tables of %d fonts" % (what, count["two_formats"], given))
+    checked_reasons(what, count)
     print(REPORT.format(what=what, **count))
 
 
@@ -311,10 +331,11 @@ def main():
         if lacks:
             print("peers: without %s, not to be had here" % ", ".join(lacks))
         packages = ", ".join(package for package in FONTS if package not in lacks)
-        report("fonts of " + packages, compared(program, folder, as_is(paths, folder, lacks))[0], len(paths))
+        more = () if set(FONTS) & set(lacks) else ("why_11", "why_32")
+        report("fonts of " + packages, compared(program, folder, as_is(paths, folder, lacks))[0], len(paths), *more)
         if not {"pcf2bdf", "xfonts-utils"} & set(lacks):
             count, _ = compared(program, folder, rewritten(paths, folder))
-            report("fonts rewritten by bdftopcf in %d formats" % len(TURNS), count, len(paths))
+            report("fonts rewritten by bdftopcf in %d formats" % len(TURNS), count, len(paths), *more, "why_13")
             checked_formats(count, len(paths))
             compare_orders(program, folder, paths)
     print("peers: %d seconds" % (time.monotonic() - begun))

@@ -40,7 +40,7 @@ static bool refused(const struct font *f, thk_font_answer of, uint32_t entry, co
            && right(f, (long long)of.place, entry, call, "place of two formats");
 }
 
-static uint32_t word(const uint8_t *at)
+uint32_t word(const uint8_t *at)
 {
     return at[0] | (uint32_t)at[1] << 8 | (uint32_t)at[2] << 16 | (uint32_t)at[3] << 24;
 }
