@@ -1,7 +1,7 @@
 -- The tests of a code against its table's bounds, in plain logic and back, and what they say of its glyph.
 use Prim.Native.Nat.{ℕ, _+_, _-_, _*_, _/_, _%_, _≤_}
-use mathlib.Core.Path.{_≡_, refl, sym, _∙_}
-use mathlib.Core.Bool.{Bool, true, false, cond, not}
+use mathlib.Core.Path.{_≡_, sym, _∙_}
+use mathlib.Core.Bool.{true, false, not}
 use mathlib.Core.List.{List}
 use mathlib.Core.Logic.{inl, inr, ⊎-elim}
 use native.Mathlib.Omega.{arith}
@@ -121,8 +121,3 @@ module _ (c : EncodingData) (code : ℕ) where
       (λ t. split (between (c .low1) (c .high1) (code / 256))
       (λ u. split (between (c .low2) (c .high2) (code % 256)) (λ v. never (rw (t, v) at e)) (λ v. rw (near, t, u, v)))
       (λ u. never (sym (rw (t, u) at f))))
-
--- a choice has what each side has under the test's answer
-pub choose : {A : Type 0} (P : A → Type 0) (t : Bool) {x y : A} → (t ≡ true → P x) → (t ≡ false → P y) → P (cond t x y)
-choose P true f g = f refl
-choose P false f g = g refl

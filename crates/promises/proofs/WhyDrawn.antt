@@ -9,7 +9,7 @@ use lib.Dec.{leb, ltb}
 use lib.ListN.{length}
 use borrow.Author.Tests.{ltb-false}
 use Rattle.reads.specs.declared.GlyphIndex.{GlyphIndex}
-use Rattle.reads.proofs.Tests.{split}
+use Rattle.reads.proofs.Tests.{split, choose}
 use Rattle.tables.specs.Fits.{recordFits}
 use Rattle.tables.specs.declared.BitmapData.{BitmapData}
 use Rattle.tables.specs.declared.MetricsUnpacked.{MetricsUnpacked}
@@ -35,7 +35,7 @@ use Rattle.why.specs.Reasons.{someBit, drawnReason, placedReason, glyphReason, 
 use Rattle.why.specs.Why.{whyOf}
 use Rattle.why.specs.declared.Reason.{Reason}
 use Rattle.promises.specs.Why.{Outcome, refused, unpictured, rows, outcomeOf, outcomeWith, toldOutcome, boxIn}
-use Rattle.promises.proofs.WhyCodes.{inside-slot, entry-empty, empty-none, above-none, first-none, second-none, choose}
+use Rattle.promises.proofs.WhyCodes.{inside-slot, entry-empty, empty-none, above-none, first-none, second-none}
 
 module _ (s : List ℕ) (rec : Record) (code len : ℕ) (at : Place) where
   abbrev b : BitmapData

@@ -12,7 +12,7 @@ use Rattle.reads.specs.Range.{between}
 use Rattle.reads.specs.Said.{refusal}
 use Rattle.reads.specs.declared.GlyphIndex.{GlyphIndex}
 use Rattle.reads.specs.declared.Refusal.{Refusal}
-use Rattle.reads.proofs.Tests.{never, split, both}
+use Rattle.reads.proofs.Tests.{never, split, choose, both}
 use Rattle.tables.specs.Fits.{recordFits}
 use Rattle.tables.specs.declared.BitmapData.{BitmapData}
 use Rattle.tables.specs.declared.Record.{Record}
@@ -41,7 +41,7 @@ use Rattle.why.specs.declared.Told.{Told}
 use Rattle.why.proofs.SomeBit.{bit-found, found-bit}
 use Rattle.promises.specs.Why.{boxIn, rowsIn, bitIn, ByteBeyond, SomeSet, OfGlyph, TrueOf, rank, FirstTrue, Askable}
 use Rattle.promises.proofs.Coloured.{past-dot, dot-past}
-use Rattle.promises.proofs.WhyCodes.{first-out, first-in, second-out, second-in, inside-slot, entry-empty, entry-some, choose}
+use Rattle.promises.proofs.WhyCodes.{first-out, first-in, second-out, second-in, inside-slot, entry-empty, entry-some}
 use Rattle.promises.proofs.Vetting.{order-good, good-order, metrics-good, good-metrics, data-size}
 
 -- ---- the order

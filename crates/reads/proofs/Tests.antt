@@ -26,6 +26,15 @@ pub either {ℓ m} : {A : Type ℓ} (P : A → Type m) (t : Bool) {x y : A} → 
 either P true p q = p
 either P false p q = q
 
+-- and what each has under the test's answer
+pub choose {ℓ m} : {A : Type ℓ} (P : A → Type m) (t : Bool) {x y : A} → (t ≡ true → P x) → (t ≡ false → P y) → P (cond t x y)
+choose P true f g = f refl
+choose P false f g = g refl
+
+-- the same by a comparison
+pub unless {ℓ m} : {A : Type ℓ} (P : A → Type m) (a b : ℕ) {x y : A} → (a < b → P x) → (b ≤ a → P y) → P (cond (ltb a b) x y)
+unless P a b f g = choose P (ltb a b) (λ t. f (ltb-true a b t)) (λ t. g (ltb-false a b t))
+
 -- what it tells that both of two tests hold
 pub both : (a b : Bool) → (a && b) ≡ true → (a ≡ true) × (b ≡ true)
 both true b e = (refl, e)
@@ -46,7 +55,3 @@ or-cases false b e = inr e
 pub or-neither : (a b : Bool) → a || b ≡ false → (a ≡ false) × (b ≡ false)
 or-neither true b e = never (sym e)
 or-neither false b e = (refl, e)
-
--- a choice by a comparison has what each side has under its outcome
-pub unless {ℓ m} : {A : Type ℓ} (P : A → Type m) (a b : ℕ) {x y : A} → (a < b → P x) → (b ≤ a → P y) → P (cond (ltb a b) x y)
-unless P a b f g = split (ltb a b) (λ t. rw t (f (ltb-true a b t))) (λ t. rw t (g (ltb-false a b t)))
