@@ -20,7 +20,7 @@ ghost use Rattle.bitmaps.specs.Draw.{shownLeaves};
 ghost use Rattle.glyphs.specs.Glyph.{placeOf, okInfo, glyphDrawn, glyphReady, drawGlyph, glyphLeaves};
 
 // Where a placed glyph is drawn; 2^64 - 1 where that is beyond 64 bits, and so beyond any buffer.
-pub(crate) fn place_of(info: GlyphInfo, start: usize, stride: u16, scale: u8) -> usize
+pub fn place_of(info: GlyphInfo, start: usize, stride: u16, scale: u8) -> usize
     ensures { λ r. ⌜ r ≡ min 18446744073709551615 (placeOf info (placeAt start stride scale) .p) ⌝ }
 {
     let side = scale as usize;

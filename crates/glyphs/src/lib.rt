@@ -10,6 +10,7 @@ pub use character::draw_char;
 pub use glyph::draw_glyph;
 pub use glyph::glyph_check;
 pub use glyph::glyph_drawn;
+pub use glyph::place_of;
 pub use glyph::show_glyph;
 use place::GlyphInfo;
 use reads::Refusal;

@@ -145,6 +145,8 @@ use Rattle.place.proofs.char_info.Kinds as char-info-kinds
 use Rattle.place.proofs.char_info.Reads as char-info-reads
 use Rattle.place.proofs.prep_char.Kinds as prep-char-kinds
 use Rattle.place.proofs.prep_char.Reads as prep-char-reads
+use Rattle.glyphs.proofs.place_of.Kinds as place-of-kinds
+use Rattle.glyphs.proofs.place_of.Reads as place-of-reads
 use Rattle.glyphs.proofs.glyph_drawn.Kinds as glyph-drawn-kinds
 use Rattle.glyphs.proofs.glyph_drawn.Reads as glyph-drawn-reads
 use Rattle.glyphs.proofs.glyph_check.Kinds as glyph-check-kinds
@@ -399,6 +401,9 @@ char-info-unique κs a r₁ r₂ x₁ x₂ p q = p ∙ sym q
 
 pub prep-char-unique : Fixes 1 prep-char-kinds.ps prep-char-kinds.r prep-char-reads.Post
 prep-char-unique κs a r₁ r₂ x₁ x₂ p q = p ∙ sym q
+
+pub place-of-unique : Fixes 0 place-of-kinds.ps place-of-kinds.r place-of-reads.Post
+place-of-unique κs a r₁ r₂ x₁ x₂ p q = p ∙ sym q
 
 pub glyph-drawn-unique : Fixes 1 glyph-drawn-kinds.ps glyph-drawn-kinds.r glyph-drawn-reads.Post
 glyph-drawn-unique κs a r₁ r₂ x₁ x₂ p q = p ∙ sym q

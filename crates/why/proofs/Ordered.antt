@@ -1,14 +1,14 @@
 -- The reason of a code, of a glyph and of a placed glyph, by the tests that the code makes in their order.
-use Prim.Native.Nat.{ℕ, _-_, _≤_, _<_}
+use Prim.Native.Nat.{ℕ, _-_, _^_, _≤_, _<_, min}
 use mathlib.Core.Path.{_≡_, refl, sym, ap, _∙_}
 use mathlib.Core.Bool.{Bool, true, false, cond}
 use mathlib.Core.List.{List}
 use native.Mathlib.Omega.{arith}
-use lib.Dec.{eqb, leb}
+use lib.Dec.{leb}
 use lib.IntN.{ℤ}
 use mir.Syntax.{w8, w16}
 use mir.Val.{Fits}
-use borrow.Author.Tests.{lt-ltb, le-ltb, eq-eqb, ne-eqb}
+use borrow.Author.Tests.{lt-ltb, le-ltb, leb-true, leb-false}
 use Rattle.reads.specs.Said.{refusal}
 use Rattle.reads.specs.declared.GlyphIndex.{GlyphIndex}
 use Rattle.reads.specs.declared.Refusal.{Refusal}
@@ -25,19 +25,17 @@ use Rattle.metrics.specs.Measure.{glyphMetrics, metricsOf}
 use Rattle.bitmaps.specs.Place.{Place, placeAt}
 use Rattle.bitmaps.specs.Limits.{okPlace}
 use Rattle.bitmaps.specs.Cut.{drawnRows}
-use Rattle.bitmaps.specs.Picture.{noBitmap, unreadable, rowsShort, pixelPast}
-use Rattle.bitmaps.specs.Draw.{rowsOf, shownAt}
-use Rattle.bitmaps.specs.declared.Rows.{Rows}
-use Rattle.bitmaps.specs.declared.Drawn.{Drawn}
-use Rattle.bitmaps.proofs.CutRule.{drawn-within}
+use Rattle.bitmaps.specs.Picture.{noBitmap, unreadable, rowsShort, glyphBit, pixelPast}
+use Rattle.bitmaps.proofs.CutRule.{drawn-none, drawn-within}
+use Rattle.bitmaps.proofs.NoDots.{none-found}
 use Rattle.outcome.proofs.WithinLimits.{place-limits}
 use Rattle.place.specs.Bounds.{boundsOf}
 use Rattle.place.specs.Info.{placeable, boxed, boxOf, infoOf}
 use Rattle.place.specs.declared.GlyphInfo.{GlyphInfo}
 use Rattle.place.specs.declared.Prepared.{Prepared}
-use Rattle.glyphs.specs.Glyph.{placeOf, glyphDrawn}
+use Rattle.glyphs.specs.Glyph.{placeOf}
 use Rattle.why.specs.Codes.{firstOutside, secondOutside}
-use Rattle.why.specs.Reasons.{someBit, drawnReason, placedReason, glyphReason, reasonOf}
+use Rattle.why.specs.Reasons.{someBit, drawnReason, rowsReason, placedReason, glyphReason, reasonOf}
 use Rattle.why.specs.Why.{reasonNumber, whyOf}
 use Rattle.why.specs.declared.Reason.{Reason}
 use Rattle.why.specs.declared.Told.{Told}
@@ -119,93 +117,77 @@ module _ (s : List ℕ) (rec : Record) (g : GlyphIndex) (len : ℕ) (at : Place)
 
 -- ---- a placed glyph
 
--- of three tests in their order the first that passes gives the number, and the reason
-refused-by : (x y z : Bool) (all : Rows) (rest : Reason) (r : Refusal)
-    → cond x (Drawn.Refused (refusal 13 0)) (cond y (Drawn.Refused (refusal 14 0)) (cond z (Drawn.Refused (refusal 16 0)) (Drawn.Rows all)))
-    ≡ Drawn.Refused r
-    → cond x Reason.BitOrder (cond y Reason.BitmapShort (cond z Reason.BufferShort rest))
-    ≡ cond (eqb (r .number) 13) Reason.BitOrder (cond (eqb (r .number) 14) Reason.BitmapShort Reason.BufferShort)
-refused-by true y z all rest r e = let q : r ≡ refusal 13 0 = cc in rw q refl
-refused-by false true z all rest r e = let q : r ≡ refusal 14 0 = cc in rw q refl
-refused-by false false true all rest r e = let q : r ≡ refusal 16 0 = cc in rw q refl
-refused-by false false false all rest r e = let z : _≡_ {A = ℕ} 0 1 = cc in absurd (omega arith)
+module _ (s : List ℕ) (b : BitmapData) (i : GlyphInfo) (len stride scale : ℕ) where
+  module _ (p n : ℕ) (n-is : n ≡ drawnRows len (placeAt p stride scale) (i .height)) (short : Bool)
+      (short-is : short ≡ rowsShort s b (i .glyph .0) (i .width) n) where
+    all-drawn : i .height ≤ n → n ≡ i .height
+    all-drawn whole = omega (arith, whole, n-is, drawn-within len (placeAt p stride scale) (i .height))
 
--- where there are rows, none passes
-none-refused : (x y z : Bool) (all r : Rows)
-    → cond x (Drawn.Refused (refusal 13 0)) (cond y (Drawn.Refused (refusal 14 0)) (cond z (Drawn.Refused (refusal 16 0)) (Drawn.Rows all)))
-    ≡ Drawn.Rows r
-    → (all ≡ r) × (x ≡ false) × (y ≡ false) × (z ≡ false)
-none-refused true y z all r e = let z : _≡_ {A = ℕ} 0 1 = cc in absurd (omega arith)
-none-refused false true z all r e = let z : _≡_ {A = ℕ} 0 1 = cc in absurd (omega arith)
-none-refused false false true all r e = let z : _≡_ {A = ℕ} 0 1 = cc in absurd (omega arith)
-none-refused false false false all r e = let q : all ≡ r = cc in (q, refl, refl, refl)
+    pub bitmap-short : short ≡ true → Reason.BitmapShort ≡ rowsReason s b i len (placeAt p stride scale)
+    bitmap-short e = rw (← n-is, ← short-is, e)
 
-module _ (s : List ℕ) (b : BitmapData) (i : GlyphInfo) (len : ℕ) (at : Place) (none : Bool) (none-is : none ≡ noBitmap b (i .glyph .0)) where
-  abbrev n : ℕ
-  n = drawnRows len (placeOf i at) (i .height)
+    module _ (all : short ≡ false) where
+      pub rows-there : rowsShort s b (i .glyph .0) (i .width) n ≡ false
+      rows-there = sym short-is ∙ all
 
-  abbrev short : Bool
-  short = rowsShort s b (i .glyph .0) (i .width) n
+      -- where no row is cut, all are there
+      pub all-there : i .height ≤ n → rowsShort s b (i .glyph .0) (i .width) (i .height) ≡ false
+      all-there whole = let e = all-drawn whole in rw e at rows-there
 
-  abbrev past : Bool
-  past = pixelPast s b (i .glyph .0) (i .width) (i .width) (placeOf i at) n len
+      module _ (past : Bool) (past-is : past ≡ pixelPast s b (i .glyph .0) (i .width) (i .width) (placeAt p stride scale) n len) where
+        pub buffer-short : past ≡ true → Reason.BufferShort ≡ rowsReason s b i len (placeAt p stride scale)
+        buffer-short e = rw (← n-is, ← short-is, all, ← past-is, e)
 
-  pub no-bitmap : none ≡ true → Reason.NoBitmap ≡ placedReason s b i len at
-  unfolding placedReason
-  no-bitmap e = rw (← none-is, e)
+        module _ (inside : past ≡ false) where
+          drawn-so : drawnReason s b i n ≡ rowsReason s b i len (placeAt p stride scale)
+          drawn-so = rw (← n-is, ← short-is, all, ← past-is, inside) refl
 
-  module _ (there : none ≡ false) (drawn : Drawn) (drawn-is : drawn ≡ glyphDrawn s b i len at) where
-    shown : drawn ≡ shownAt s b (i .glyph .0) (i .width) (i .height) len (placeOf i at)
-    unfolding glyphDrawn
-    shown = rw (← none-is, there) at drawn-is
+          pub rows-cut : n < i .height → Reason.RowsCut (i .height - n) ≡ rowsReason s b i len (placeAt p stride scale)
+          rows-cut h = rw (lt-ltb n (i .height) h) at drawn-so
 
-    module _ (r : Refusal) (e : drawn ≡ Drawn.Refused r) where
-      by-number : cond (eqb (r .number) 13) Reason.BitOrder (cond (eqb (r .number) 14) Reason.BitmapShort Reason.BufferShort) ≡ placedReason s b i len at
-      unfolding placedReason shownAt
-      by-number =
-          rw (← none-is, there)
-          (sym (refused-by (unreadable b) short past (rowsOf (i .height) n) (drawnReason s b i n) r (sym shown ∙ e)))
+          module _ (whole : i .height ≤ n) (bit : Bool) (bit-is : bit ≡ someBit s b (i .glyph .0) (i .width) (i .height)) where
+            seen-or-not : cond bit Reason.Drawn Reason.Blank ≡ rowsReason s b i len (placeAt p stride scale)
+            seen-or-not = rw bit-is (rw (all-drawn whole, le-ltb (i .height) (i .height) (omega arith)) at drawn-so)
 
-      pub bit-order : r .number ≡ 13 → Reason.BitOrder ≡ placedReason s b i len at
-      bit-order h = rw (eq-eqb _ _ h) at by-number
+            pub is-drawn : bit ≡ true → Reason.Drawn ≡ rowsReason s b i len (placeAt p stride scale)
+            is-drawn t = rw t at seen-or-not
 
-      pub bitmap-short : (r .number ≡ 13 → ⊥) → r .number ≡ 14 → Reason.BitmapShort ≡ placedReason s b i len at
-      bitmap-short h k = rw (ne-eqb _ _ h, eq-eqb _ _ k) at by-number
+            pub is-blank : bit ≡ false → Reason.Blank ≡ rowsReason s b i len (placeAt p stride scale)
+            is-blank t = rw t at seen-or-not
 
-      pub buffer-short : (r .number ≡ 13 → ⊥) → (r .number ≡ 14 → ⊥) → Reason.BufferShort ≡ placedReason s b i len at
-      buffer-short h k = rw (ne-eqb _ _ h, ne-eqb _ _ k) at by-number
+  -- past the buffer one place is as another
+  far : (p q : ℕ) → len ≤ p → len ≤ q → rowsReason s b i len (placeAt p stride scale) ≡ rowsReason s b i len (placeAt q stride scale)
+  far p q h k =
+      rw (
+        drawn-none len (placeAt p stride scale) (i .height) h,
+        drawn-none len (placeAt q stride scale) (i .height) k,
+        none-found (glyphBit s b (i .glyph .0) (i .width)) (placeAt p stride scale) (i .width) 0 (λ r c a h l m. omega arith) (λ j. leb len j),
+        none-found (glyphBit s b (i .glyph .0) (i .width)) (placeAt q stride scale) (i .width) 0 (λ r c a h l m. omega arith) (λ j. leb len j),
+      ) refl
 
-    module _ (r : Rows) (e : drawn ≡ Drawn.Rows r) where
-      all-pass : (rowsOf (i .height) n ≡ r) × (unreadable b ≡ false) × (short ≡ false) × (past ≡ false)
-      unfolding shownAt
-      all-pass = none-refused (unreadable b) short past (rowsOf (i .height) n) r (sym shown ∙ e)
+  -- so the greatest number can stand for any place beyond it
+  capped : (top p : ℕ) → len ≤ top → rowsReason s b i len (placeAt (min top p) stride scale) ≡ rowsReason s b i len (placeAt p stride scale)
+  capped top p h =
+      split (leb p top)
+      (λ t. let within : min top p ≡ p = omega (arith, leb-true p top t) in rw within refl)
+      (λ t. let beyond = leb-false p top t in far (min top p) p (omega (arith, beyond)) (omega (arith, beyond)))
 
-      drawn-so : drawnReason s b i n ≡ placedReason s b i len at
+  module _ (start : ℕ) (none : Bool) (none-is : none ≡ noBitmap b (i .glyph .0)) where
+    pub no-bitmap : none ≡ true → Reason.NoBitmap ≡ placedReason s b i len (placeAt start stride scale)
+    unfolding placedReason
+    no-bitmap e = rw (← none-is, e)
+
+    module _ (there : none ≡ false) (unread : Bool) (unread-is : unread ≡ unreadable b) where
+      pub bit-order : unread ≡ true → Reason.BitOrder ≡ placedReason s b i len (placeAt start stride scale)
       unfolding placedReason
-      drawn-so = let (is, x, y, z) = all-pass in rw (← none-is, there, x, y, z)
+      bit-order e = rw (← none-is, there, ← unread-is, e)
 
-      cut-is : r .dropped ≡ i .height - n
-      cut-is = ap (λ (x : Rows). x .dropped) (sym (all-pass .0))
-
-      pub rows-cut : (r .dropped ≡ 0 → ⊥) → Reason.RowsCut (r .dropped) ≡ placedReason s b i len at
-      rows-cut h = rw cut-is (rw (lt-ltb n (i .height) (omega (arith, cut-is))) at drawn-so)
-
-      module _ (whole : r .dropped ≡ 0) where
-        all-drawn : n ≡ i .height
-        all-drawn = omega (arith, cut-is, drawn-within len (placeOf i at) (i .height))
-
-        pub rows-there : rowsShort s b (i .glyph .0) (i .width) (i .height) ≡ false
-        rows-there = let (is, x, y, z) = all-pass in rw all-drawn at y
-
-        module _ (bit : Bool) (bit-is : bit ≡ someBit s b (i .glyph .0) (i .width) (i .height)) where
-          seen-or-not : cond bit Reason.Drawn Reason.Blank ≡ placedReason s b i len at
-          seen-or-not = rw bit-is (rw (all-drawn, le-ltb (i .height) (i .height) (omega arith)) at drawn-so)
-
-          pub is-drawn : bit ≡ true → Reason.Drawn ≡ placedReason s b i len at
-          is-drawn t = rw t at seen-or-not
-
-          pub is-blank : bit ≡ false → Reason.Blank ≡ placedReason s b i len at
-          is-blank t = rw t at seen-or-not
+      pub by-rows : (p : ℕ) (reason : Reason) → unread ≡ false → p ≡ min 18446744073709551615 (placeOf i (placeAt start stride scale) .p)
+          → len < 2 ^ 64 → reason ≡ rowsReason s b i len (placeAt p stride scale) → reason ≡ placedReason s b i len (placeAt start stride scale)
+      unfolding placedReason
+      by-rows p reason readable p-is fits is =
+          rw (← none-is, there, ← unread-is, readable)
+          (is ∙ rw p-is (capped 18446744073709551615 (placeOf i (placeAt start stride scale) .p) (omega arith)))
 
 -- ---- the number of a reason that a match found
 

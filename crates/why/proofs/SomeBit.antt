@@ -14,7 +14,7 @@ use Rattle.reads.specs.Num.{Octets}
 use Rattle.reads.proofs.Tests.{or-cases}
 use Rattle.tables.specs.declared.BitmapData.{BitmapData}
 use Rattle.bitmaps.specs.Paint.{some}
-use Rattle.bitmaps.specs.Place.{placeAt}
+use Rattle.bitmaps.specs.Place.{Place, placeAt}
 use Rattle.bitmaps.specs.Units.{orderOf}
 use Rattle.bitmaps.specs.Rows.{rowStride}
 use Rattle.bitmaps.specs.Ink.{rowsPast, rowBits}
@@ -24,7 +24,8 @@ use Rattle.bitmaps.proofs.InFile.{row-in-file}
 use Rattle.bitmaps.proofs.LentRows.{Found, some-there, past-in-file}
 use Rattle.bitmaps.proofs.Pixels.{dot-true, dot-found}
 use Rattle.bitmaps.proofs.RowEnds.{end-reached}
-use Rattle.bitmaps.proofs.Searching.{same-test, some-true, some-witness, some-none}
+use Rattle.bitmaps.proofs.NoDots.{none-found}
+use Rattle.bitmaps.proofs.Searching.{same-test, some-true, some-witness}
 use Rattle.why.specs.Reasons.{someBit}
 
 module _ (s : List ℕ) (b : BitmapData) (g width n : ℕ) where
@@ -44,12 +45,12 @@ module _ (s : List ℕ) (b : BitmapData) (g width n : ℕ) where
   unfolding someBit
   found-bit r c h l set = some-true n (λ r. some width (λ c. bit r c)) r h (some-true width (λ c. bit r c) c l set)
 
-  -- without a row or a column there is none
-  pub no-bit : eqb n 0 || eqb width 0 ≡ true → false ≡ someBit s b g width n
-  unfolding someBit
-  no-bit e =
-      sym (some-none n (λ r. some width (λ c. bit r c)) (λ r h. some-none width (λ c. bit r c) (λ c l.
-      absurd (⊎-elim (λ t. omega (arith, eqb-true n 0 t)) (λ t. omega (arith, eqb-true width 0 t)) (or-cases (eqb n 0) (eqb width 0) e)))))
+  -- without a row or a column there is no pixel
+  pub no-pixel : (at : Place) (len : ℕ) → eqb n 0 || eqb width 0 ≡ true → false ≡ pixelPast s b g width width at n len
+  no-pixel at len e =
+      sym (none-found (glyphBit s b g width) at width n
+      (λ r c a h l m. ⊎-elim (λ t. omega (arith, eqb-true n 0 t)) (λ t. omega (arith, eqb-true width 0 t)) (or-cases (eqb n 0) (eqb width 0) e))
+      (λ j. leb len j))
 
   -- every set bit has a pixel beyond a buffer of none
   past-none : pixelPast s b g width width (placeAt 0 1 1) n 0 ≡ someBit s b g width n
@@ -73,6 +74,9 @@ module _ (s : List ℕ) (b : BitmapData) (g width n : ℕ) where
         passes = le-leb 0 (0 + r * 1 * 1 + c * 1 + 0 * 1 + 0) (omega arith);
       }))
 
+  pub bit-past : (past : Bool) → past ≡ pixelPast s b g width width (placeAt 0 1 1) n 0 → past ≡ someBit s b g width n
+  bit-past past is = is ∙ past-none
+
   module _ (first step : ℕ) (there : rowsShort s b g width n ≡ false) (some-there-is : eqb n 0 || eqb width 0 ≡ false)
       (first-is : first ≡ offsetOf s b g) where
     -- the first row begins in the file
@@ -82,9 +86,10 @@ module _ (s : List ℕ) (b : BitmapData) (g width n : ℕ) where
         let (c, m, e) = end-reached (orderOf b) width columns in
         omega (arith, e, first-is, row-in-file s b g width n there 0 rows columns)
 
-    pub bit-searched : (o : Order) (past : Bool) → o ≡ orderOf b → step ≡ rowStride width (b .pad) → Octets s
-        → past ≡ rowsPast (rowBits s o (b .bits + first) step) (placeAt 0 1 1) width n 0 → past ≡ someBit s b g width n
-    bit-searched o past o-is step-is bytes is =
+    pub pixel-searched : (o : Order) (p stride scale len : ℕ) (past : Bool) → o ≡ orderOf b → step ≡ rowStride width (b .pad) → Octets s
+        → past ≡ rowsPast (rowBits s o (b .bits + first) step) (placeAt p stride scale) width n len
+        → past ≡ pixelPast s b g width width (placeAt p stride scale) n len
+    pixel-searched o p stride scale len past o-is step-is bytes is =
         let (rows, columns) = some-there n width some-there-is in
         let found : Found s b g width n first step = record { rows = rows; columns = columns; first-is = first-is; step-is = step-is; there = there } in
-        past-in-file s b g width n first step found o o-is width 0 1 1 (omega arith) bytes 0 past is ∙ past-none
+        past-in-file s b g width n first step found o o-is width p stride scale (omega arith) bytes len past is

@@ -33,17 +33,20 @@ drawnReason s b i n =
     cond (ltb n (i .height)) (Reason.RowsCut (i .height - n))
     (cond (someBit s b (i .glyph .0) (i .width) n) Reason.Drawn Reason.Blank)
 
--- a placed glyph: 12, 13, 14, 16, then these
+-- a glyph whose bitmap can be read, at its place: 14, 16, then these
+abbrev pub rowsReason : List ℕ → BitmapData → GlyphInfo → ℕ → Place → Reason
+rowsReason s b i len p =
+    let g = i .glyph .0 in
+    let n = drawnRows len p (i .height) in
+    cond (rowsShort s b g (i .width) n) Reason.BitmapShort
+    (cond (pixelPast s b g (i .width) (i .width) p n len) Reason.BufferShort
+    (drawnReason s b i n))
+
+-- a placed glyph: 12, 13, then these
 unfoldable pub placedReason : List ℕ → BitmapData → GlyphInfo → ℕ → Place → Reason
 placedReason s b i len at =
-    let g = i .glyph .0 in
-    let p = placeOf i at in
-    let n = drawnRows len p (i .height) in
-    cond (noBitmap b g) Reason.NoBitmap
-    (cond (unreadable b) Reason.BitOrder
-    (cond (rowsShort s b g (i .width) n) Reason.BitmapShort
-    (cond (pixelPast s b g (i .width) (i .width) p n len) Reason.BufferShort
-    (drawnReason s b i n))))
+    cond (noBitmap b (i .glyph .0)) Reason.NoBitmap
+    (cond (unreadable b) Reason.BitOrder (rowsReason s b i len (placeOf i at)))
 
 -- a glyph with these metrics: 11, then those of its box
 abbrev pub measuredReason : List ℕ → Record → GlyphIndex → ℕ → Place → MetricsUnpacked → Reason

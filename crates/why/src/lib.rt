@@ -50,8 +50,8 @@ pub enum Told {
     Refused(Refusal),
 }
 
-// A reason as a number: that of a refusal is the refusal's, the others have 31 to 37, which no refusal has. And how many
-// rows were cut.
+// A reason as a number: that of a refusal is the refusal's, the others have 31 to 37, which no refusal has. And how
+// many rows were cut.
 #[repr(C)]
 pub struct ReasonNumber {
     pub number: u32,

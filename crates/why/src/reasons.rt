@@ -1,15 +1,17 @@
-// The reasons in their order, from the code to the picture. Nothing here tests the record: bytes past the end read as 0.
+// The reasons in their order, from the code to the picture. Nothing here tests the record: bytes past the end are 0.
 use crate::Reason;
 use crate::bounds::first_outside;
 use crate::bounds::second_outside;
-use bitmaps::Drawn;
+use bitmaps::bytes_past;
 use bitmaps::no_bitmap;
 use bitmaps::offset_of;
 use bitmaps::order_of;
 use bitmaps::row_stride;
-use glyphs::glyph_drawn;
+use bitmaps::unreadable;
+use glyphs::place_of;
 use lookup::Found;
 use lookup::glyph_of;
+use outcome::rows_drawn;
 use outcome::rows_past;
 use place::GlyphInfo;
 use place::Prepared;
@@ -21,8 +23,51 @@ use tables::Record;
 ghost use mathlib.Core.Path.{_≡_};
 ghost use mathlib.Core.Bool.{false};
 ghost use Rattle.bitmaps.specs.Place.{placeAt};
-ghost use Rattle.bitmaps.specs.Picture.{rowsShort};
-ghost use Rattle.why.specs.Reasons.{someBit, placedReason, glyphReason, reasonOf};
+ghost use Rattle.bitmaps.specs.Picture.{rowsShort, pixelPast};
+ghost use Rattle.why.specs.Reasons.{someBit, rowsReason, placedReason, glyphReason, reasonOf};
+
+// Whether 14 refuses the first n rows of a glyph: the test of `bitmaps::rows_short`, which vetting has compiled into
+// its loop as long as nothing else calls it.
+fn rows_lacking(s: &[u8], b: BitmapData, g: GlyphIndex, width: u16, n: u16) -> bool
+    ensures { λ r. ⌜ r ≡ rowsShort (now (s .entry)) b (g .0) width n ⌝ }
+{
+    bytes_past(s, b, offset_of(s, b, g), row_stride(width, b.pad), width, n)
+}
+
+// Whether 16 refuses the first n rows of a glyph, which are all there.
+fn pixel_past(
+    s: &[u8],
+    b: BitmapData,
+    g: GlyphIndex,
+    width: u16,
+    n: u16,
+    len: usize,
+    p: usize,
+    stride: u16,
+    scale: u8,
+) -> bool
+    requires { ⌜ rowsShort (now s) b (g .0) width n ≡ false ⌝ }
+    ensures { λ r. ⌜ r ≡ pixelPast (now (s .entry)) b (g .0) width width (placeAt p stride scale) n len ⌝ }
+{
+    if (n == 0) | (width == 0) {
+        return false;
+    }
+    let first = offset_of(s, b, g);
+    let step = row_stride(width, b.pad);
+    let from = b.bits + first as usize;
+    rows_past(
+        s,
+        order_of(b),
+        from,
+        step,
+        width as u32,
+        n,
+        len,
+        p,
+        stride,
+        scale,
+    )
+}
 
 // Whether a glyph has a set bit, all of whose rows are there. Every set bit has a pixel beyond a buffer of none, so the
 // search for such a pixel finds it.
@@ -30,16 +75,40 @@ fn some_bit(s: &[u8], b: BitmapData, g: GlyphIndex, width: u16, height: u16) -> 
     requires { ⌜ rowsShort (now s) b (g .0) width height ≡ false ⌝ }
     ensures { λ r. ⌜ r ≡ someBit (now (s .entry)) b (g .0) width height ⌝ }
 {
-    if (height == 0) | (width == 0) {
-        return false;
-    }
-    let first = offset_of(s, b, g);
-    let step = row_stride(width, b.pad);
-    let from = b.bits + first as usize;
-    rows_past(s, order_of(b), from, step, width as u32, height, 0, 0, 1, 1)
+    pixel_past(s, b, g, width, height, 0, 0, 1, 1)
 }
 
-// The reason of a placed glyph: 12, 13, 14, 16, rows cut, blank, drawn.
+// The reason of a glyph whose bitmap can be read, drawn at p: 14, 16, rows cut, blank, drawn. The tests are those of
+// `glyphs::glyph_drawn`, which texts have compiled into their loop as long as nothing else calls it.
+fn rows_reason(
+    s: &[u8],
+    b: BitmapData,
+    info: GlyphInfo,
+    len: usize,
+    p: usize,
+    stride: u16,
+    scale: u8,
+) -> Reason
+    ensures { λ r. ⌜ r ≡ rowsReason (now (s .entry)) b info len (placeAt p stride scale) ⌝ }
+{
+    let g = info.glyph;
+    let n = rows_drawn(len, p, stride, scale, info.height);
+    if rows_lacking(s, b, g, info.width, n) {
+        return Reason::BitmapShort;
+    }
+    if pixel_past(s, b, g, info.width, n, len, p, stride, scale) {
+        return Reason::BufferShort;
+    }
+    if n < info.height {
+        return Reason::RowsCut(info.height - n);
+    }
+    if some_bit(s, b, g, info.width, info.height) {
+        return Reason::Drawn;
+    }
+    Reason::Blank
+}
+
+// The reason of a placed glyph: 12, 13, then as above.
 fn placed_reason(
     s: &[u8],
     b: BitmapData,
@@ -51,31 +120,14 @@ fn placed_reason(
 ) -> Reason
     ensures { λ r. ⌜ r ≡ placedReason (now (s .entry)) b info len (placeAt start stride scale) ⌝ }
 {
-    let g = info.glyph;
-    if no_bitmap(b, g) {
+    if no_bitmap(b, info.glyph) {
         return Reason::NoBitmap;
     }
-    let drawn = glyph_drawn(s, b, info, len, start, stride, scale);
-    match drawn {
-        Drawn::Rows(rows) => {
-            if rows.dropped != 0 {
-                return Reason::RowsCut(rows.dropped);
-            }
-            if some_bit(s, b, g, info.width, info.height) {
-                return Reason::Drawn;
-            }
-            Reason::Blank
-        }
-        Drawn::Refused(r) => {
-            if r.number == 13 {
-                return Reason::BitOrder;
-            }
-            if r.number == 14 {
-                return Reason::BitmapShort;
-            }
-            Reason::BufferShort
-        }
+    if unreadable(b) {
+        return Reason::BitOrder;
     }
+    let p = place_of(info, start, stride, scale);
+    rows_reason(s, b, info, len, p, stride, scale)
 }
 
 // The reason of a glyph: 10, 11, then as above.
