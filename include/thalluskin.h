@@ -744,7 +744,7 @@ static inline thk_char_answer thk_draw_char(const uint8_t *font, uint64_t font_l
  *   THK_WHY_BUFFER_SHORT   a set bit of a row to draw has a pixel beyond the page
  *   THK_WHY_ROWS_CUT       the page's end cuts `cut` rows; those above them, if there are any, are drawn
  *   THK_WHY_BLANK          all rows are drawn, and none has a set bit, as those of a space
- *   THK_WHY_DRAWN          all rows are drawn, and there is a set bit. If nothing shows, the colour is the page's own
+ *   THK_WHY_DRAWN          all rows are drawn, and there is a set bit
  *
  * The first four are those for which thk_draw_char is refused 9. Refused 6, 15. */
 static inline thk_why_answer thk_why(const uint8_t *font, uint64_t font_len, const thk_record *rec, thk_char_code code,

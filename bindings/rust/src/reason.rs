@@ -39,7 +39,7 @@ pub enum Reason {
     RowsCut(u16),
     /// All rows are drawn, and none has a set bit, as those of a space.
     Blank,
-    /// All rows are drawn, and there is a set bit. If nothing shows, the colour is the page's own.
+    /// All rows are drawn, and there is a set bit.
     Drawn,
 }
 
