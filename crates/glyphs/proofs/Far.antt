@@ -22,6 +22,13 @@ use Rattle.bitmaps.proofs.NoDots.{none-found, no-dots, dots-behind}
 use Rattle.place.specs.declared.GlyphInfo.{GlyphInfo}
 use Rattle.glyphs.specs.Glyph.{placeOf, okInfo, nothingDrawn}
 
+-- where one place from `len` on is as another, the greatest number can stand for any beyond it
+pub capped : {A : Type 0} (f : ℕ → A) (len top p : ℕ) → ((q r : ℕ) → len ≤ q → len ≤ r → f q ≡ f r) → len ≤ top → f (min top p) ≡ f p
+capped f len top p same h =
+    split (leb p top)
+    (λ t. let within : min top p ≡ p = omega (arith, leb-true p top t) in rw within refl)
+    (λ t. let beyond = leb-false p top t in same (min top p) p (omega (arith, beyond)) (omega (arith, beyond)))
+
 module _ (s : List ℕ) (b : BitmapData) (g width stride scale : ℕ) where
   far-shown : (height len p q : ℕ) → len ≤ p → len ≤ q → shownAt s b g width height len (placeAt p stride scale) ≡ shownAt s b g width height len (placeAt q stride scale)
   unfolding shownAt
@@ -41,19 +48,13 @@ module _ (s : List ℕ) (b : BitmapData) (g width stride scale : ℕ) where
   module _ (top p : ℕ) where
     pub capped-shown : (height len : ℕ) → len ≤ top
         → shownAt s b g width height len (placeAt (min top p) stride scale) ≡ shownAt s b g width height len (placeAt p stride scale)
-    capped-shown height len h =
-        split (leb p top)
-        (λ t. let within : min top p ≡ p = omega (arith, leb-true p top t) in rw within refl)
-        (λ t. let beyond = leb-false p top t in far-shown height len (min top p) p (omega (arith, beyond)) (omega (arith, beyond)))
+    capped-shown height len h = capped (λ q. shownAt s b g width height len (placeAt q stride scale)) len top p (far-shown height len) h
 
     pub capped-leaves : (colour : ℕ) (r : Drawn) (old : List ℕ) → length old ≤ top
         → shownLeaves s b g width (placeAt (min top p) stride scale) colour r old ≡ shownLeaves s b g width (placeAt p stride scale) colour r old
     capped-leaves colour r old h =
-        split (leb p top)
-        (λ t. let within : min top p ≡ p = omega (arith, leb-true p top t) in rw within refl)
-        (λ t.
-        let beyond = leb-false p top t in
-        far-leaves (min top p) colour r old (omega (arith, beyond)) ∙ sym (far-leaves p colour r old (omega (arith, beyond))))
+        capped (λ q. shownLeaves s b g width (placeAt q stride scale) colour r old) (length old) top p
+        (λ p q l k. far-leaves p colour r old l ∙ sym (far-leaves q colour r old k)) h
 
 -- a glyph without a bitmap draws nothing
 pub nothing-leaves : (s : List ℕ) (b : BitmapData) (g width : ℕ) (at : Place) (colour : ℕ) (old : List ℕ)

@@ -1,8 +1,7 @@
 -- A reason goes with what drawing the same character answers: rows cut, blank and drawn exactly with rows of a glyph that has a bitmap, and
 -- each of the others exactly with the refusal of its number, or with no bitmap.
 use Prim.Native.Nat.{ℕ, _-_}
-use mathlib.Core.Path.{_≡_, refl, sym, ap, _∙_}
-use mathlib.Core.Bool.{Bool, true, false, cond}
+use mathlib.Core.Path.{_≡_, refl, ap}
 use mathlib.Core.List.{List}
 use native.Mathlib.Omega.{arith}
 use lib.Dec.{leb, ltb}
@@ -12,9 +11,8 @@ use Rattle.reads.specs.declared.GlyphIndex.{GlyphIndex}
 use Rattle.reads.proofs.Tests.{split, choose}
 use Rattle.tables.specs.Fits.{recordFits}
 use Rattle.tables.specs.declared.BitmapData.{BitmapData}
-use Rattle.tables.specs.declared.MetricsUnpacked.{MetricsUnpacked}
 use Rattle.tables.specs.declared.Record.{Record}
-use Rattle.lookup.specs.Lookup.{slotOf, noGlyph, glyphOf}
+use Rattle.lookup.specs.Lookup.{slotOf, glyphOf}
 use Rattle.lookup.specs.declared.Found.{Found}
 use Rattle.lookup.specs.declared.Slot.{Slot}
 use Rattle.metrics.specs.Measure.{glyphMetrics, metricsOf}
@@ -29,12 +27,11 @@ use Rattle.place.specs.declared.GlyphInfo.{GlyphInfo}
 use Rattle.place.specs.declared.Prepared.{Prepared}
 use Rattle.glyphs.specs.Glyph.{placeOf, glyphDrawn}
 use Rattle.glyphs.specs.Char.{withInfo, charOf, charReady, drawChar}
-use Rattle.glyphs.specs.declared.CharDrawn.{CharDrawn}
 use Rattle.why.specs.Codes.{firstOutside, secondOutside}
 use Rattle.why.specs.Reasons.{someBit, drawnReason, placedReason, glyphReason, entryReason, reasonOf}
 use Rattle.why.specs.Why.{whyOf}
 use Rattle.why.specs.declared.Reason.{Reason}
-use Rattle.promises.specs.Why.{Outcome, refused, unpictured, rows, outcomeOf, outcomeWith, toldOutcome, boxIn}
+use Rattle.promises.specs.Why.{Outcome, rows, outcomeOf, outcomeWith, toldOutcome, boxIn}
 use Rattle.promises.proofs.WhyCodes.{inside-slot, entry-empty, empty-none, above-none, first-none, second-none}
 
 module _ (s : List ℕ) (rec : Record) (code len : ℕ) (at : Place) where

@@ -8,7 +8,7 @@ use lib.Dec.{leb}
 use lib.IntN.{ℤ}
 use mir.Syntax.{w8, w16}
 use mir.Val.{Fits}
-use borrow.Author.Tests.{lt-ltb, le-ltb, leb-true, leb-false}
+use borrow.Author.Tests.{lt-ltb, le-ltb}
 use Rattle.reads.specs.Said.{refusal}
 use Rattle.reads.specs.declared.GlyphIndex.{GlyphIndex}
 use Rattle.reads.specs.declared.Refusal.{Refusal}
@@ -34,6 +34,7 @@ use Rattle.place.specs.Info.{placeable, boxed, boxOf, infoOf}
 use Rattle.place.specs.declared.GlyphInfo.{GlyphInfo}
 use Rattle.place.specs.declared.Prepared.{Prepared}
 use Rattle.glyphs.specs.Glyph.{placeOf}
+use Rattle.glyphs.proofs.Far.{capped}
 use Rattle.why.specs.Codes.{firstOutside, secondOutside}
 use Rattle.why.specs.Reasons.{someBit, drawnReason, rowsReason, placedReason, glyphReason, reasonOf}
 use Rattle.why.specs.Why.{reasonNumber, whyOf}
@@ -165,13 +166,6 @@ module _ (s : List ℕ) (b : BitmapData) (i : GlyphInfo) (len stride scale : ℕ
         none-found (glyphBit s b (i .glyph .0) (i .width)) (placeAt q stride scale) (i .width) 0 (λ r c a h l m. omega arith) (λ j. leb len j),
       ) refl
 
-  -- so the greatest number can stand for any place beyond it
-  capped : (top p : ℕ) → len ≤ top → rowsReason s b i len (placeAt (min top p) stride scale) ≡ rowsReason s b i len (placeAt p stride scale)
-  capped top p h =
-      split (leb p top)
-      (λ t. let within : min top p ≡ p = omega (arith, leb-true p top t) in rw within refl)
-      (λ t. let beyond = leb-false p top t in far (min top p) p (omega (arith, beyond)) (omega (arith, beyond)))
-
   module _ (start : ℕ) (none : Bool) (none-is : none ≡ noBitmap b (i .glyph .0)) where
     pub no-bitmap : none ≡ true → Reason.NoBitmap ≡ placedReason s b i len (placeAt start stride scale)
     unfolding placedReason
@@ -187,7 +181,7 @@ module _ (s : List ℕ) (b : BitmapData) (i : GlyphInfo) (len stride scale : ℕ
       unfolding placedReason
       by-rows p reason readable p-is fits is =
           rw (← none-is, there, ← unread-is, readable)
-          (is ∙ rw p-is (capped 18446744073709551615 (placeOf i (placeAt start stride scale) .p) (omega arith)))
+          (is ∙ rw p-is (capped (λ q. rowsReason s b i len (placeAt q stride scale)) len 18446744073709551615 (placeOf i (placeAt start stride scale) .p) far (omega arith)))
 
 -- ---- the number of a reason that a match found
 
