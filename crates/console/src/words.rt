@@ -33,6 +33,17 @@ pub fn refusal_line(r: Refusal) {
     say(b"\n");
 }
 
+// For a script, in a line: the number in two digits, the place, and what is refused, as `refused 16 place 11 text`.
+pub fn refusal_of(r: Refusal, what: &[u8]) {
+    say_item(
+        b"refused # place # |refused 0# place # ",
+        (r.number < 10) as usize,
+        &[r.number as usize, r.place],
+    );
+    say(what);
+    say(b"\n");
+}
+
 // Where this character comes next, the text's end where it does not.
 fn next_of(text: &[u8], from: usize, c: u8) -> usize
     requires { ⌜ from ≤ length (now text) ⌝ }

@@ -14,8 +14,8 @@ use crate::asked::asked_of;
 use crate::blocks::print_blocks;
 use crate::picture::print_picture;
 use crate::skipped::print_skipped;
+use console::refusal_of;
 use console::say;
-use console::say_item;
 use console::say_with;
 use reads::Refusal;
 use tables::EncodingData;
@@ -63,16 +63,6 @@ fn font_shown(r: Request, text: &[u8], font: &[u8], panel: &mut [u32]) -> Shown 
     }
 }
 
-// The number in two digits, the place, and what is refused: `refused 16 place 11 text`.
-fn refusal(r: Refusal, what: &[u8]) {
-    say_item(
-        b"refused # place # |refused 0# place # ",
-        (r.number < 10) as usize,
-        &[r.number as usize, r.place],
-    );
-    say(what);
-}
-
 // The panel; after half blocks, what the text lost and how high it is, and what the font lacks.
 fn print_panel(
     r: Request,
@@ -100,8 +90,8 @@ fn with_font(r: Request, text: &[u8], font: &[u8], panel: &mut [u32], out: &mut 
     let shown = font_shown(r, text, font, &mut *panel);
     match shown {
         Shown::Done(rows, codes) => print_panel(r, text, font, codes, panel, rows, out),
-        Shown::Font(no) => refusal(no, b"font\n"),
-        Shown::Text(no) => refusal(no, b"text\n"),
+        Shown::Font(no) => refusal_of(no, b"font"),
+        Shown::Text(no) => refusal_of(no, b"text"),
     }
 }
 
