@@ -1,0 +1,194 @@
+// The lines: each character, the reason, and the numbers that make it true.
+use crate::asked::Request;
+use crate::character::print_character;
+use crate::picture::say_picture;
+use console::refusal;
+use console::say;
+use console::say_code;
+use console::say_hex;
+use console::say_item;
+use console::say_short;
+use console::say_with;
+use lookup::Found;
+use lookup::glyph_of;
+use metrics::Measured;
+use metrics::metrics_of;
+use place::Prepared;
+use place::boxed;
+use reads::CharCode;
+use reads::GlyphIndex;
+use tables::BitmapData;
+use tables::EncodingData;
+use tables::MetricsUnpacked;
+use tables::Record;
+use utf8::Step;
+use utf8::step_at;
+use why::Reason;
+use why::Told;
+use why::why;
+
+// As `the font's code table covers first bytes 01 to 20, and this code's is 4E`.
+fn say_bytes(which: &[u8], low: u16, high: u16, byte: u32) {
+    say(b"the font's code table covers ");
+    say(which);
+    say(b" bytes ");
+    say_hex(low as u32, 2);
+    say(b" to ");
+    say_hex(high as u32, 2);
+    say(b", and this code's is ");
+    say_hex(byte, 2);
+}
+
+// The second-byte bounds are for whole codes where the first-byte ones are both 0.
+fn say_second(c: EncodingData, code: u32) {
+    if (c.low1 == 0) & (c.high1 == 0) {
+        say(b"the font's code table covers ");
+        say_code(c.low2 as u32);
+        say(b" to ");
+        say_code(c.high2 as u32);
+        return;
+    }
+    say_bytes(b"second", c.low2, c.high2, code % 256);
+}
+
+// Metrics that are out of range under the ascent of the font's bounds: the first number that is.
+fn say_metrics(m: MetricsUnpacked, top: i16) {
+    if m.width < 0 {
+        say_short(b"width is #, below 0", &[m.width]);
+        return;
+    }
+    if m.ascent < 0 {
+        say_short(b"ascent is #, below 0", &[m.ascent]);
+        return;
+    }
+    if m.left < 0 {
+        say_short(b"left bearing is #, below 0", &[m.left]);
+        return;
+    }
+    if top < m.ascent {
+        say_short(
+            b"ascent is #, above the # of the font's bounds",
+            &[m.ascent, top],
+        );
+        return;
+    }
+    say_short(
+        b"ascent # and descent # are together outside 0 to 32,767",
+        &[m.ascent, m.descent],
+    );
+}
+
+fn say_order(b: BitmapData) {
+    if 2 < b.unit {
+        say(b"refusal 13: the font has scan unit code 3, which stands for no size");
+        return;
+    }
+    say(b"refusal 13: the font has scan units of ");
+    say_item(b"1 byte|2 bytes|4 bytes", b.unit as usize, &[]);
+    say_with(b", wider than its row pad of #", &[b.pad as usize]);
+}
+
+// The reasons of a glyph with these metrics.
+fn say_measured(
+    r: Request,
+    font: &[u8],
+    rec: Record,
+    g: GlyphIndex,
+    m: MetricsUnpacked,
+    reason: Reason,
+) {
+    let top = rec.accel.maxbounds.ascent;
+    let prepared = boxed(g, m, top);
+    match prepared {
+        Prepared::Info(info) => say_picture(r, font, rec.bitmaps, info, reason),
+        Prepared::Refused(_) => {
+            say_with(b"refusal 11: it is glyph #, whose ", &[g.0 as usize]);
+            say_metrics(m, top);
+        }
+    }
+}
+
+// The reasons of a glyph.
+fn say_glyph(r: Request, font: &[u8], rec: Record, g: GlyphIndex, reason: Reason) {
+    match reason {
+        Reason::NoBitmap => say_with(
+            b"refusal 12: it is glyph #, counted from 0, and the font's bitmap count is #",
+            &[g.0 as usize, rec.bitmaps.count as usize],
+        ),
+        Reason::BitOrder => say_order(rec.bitmaps),
+        _ => match metrics_of(font, rec.metrics, g) {
+            Measured::Metrics(m) => say_measured(r, font, rec, g, m, reason),
+            Measured::Refused(_) => say_with(
+                b"refusal 10: it is glyph #, counted from 0, and the font's metrics count is #",
+                &[g.0 as usize, rec.metrics.count as usize],
+            ),
+        },
+    }
+}
+
+fn say_reason(r: Request, font: &[u8], rec: Record, code: CharCode, reason: Reason) {
+    match reason {
+        Reason::AboveCodes => say(b"no font of this format has a glyph above U+FFFF"),
+        Reason::FirstByte => say_bytes(b"first", rec.codes.low1, rec.codes.high1, code.0 / 256),
+        Reason::SecondByte => say_second(rec.codes, code.0),
+        _ => match glyph_of(font, rec.codes, code) {
+            Found::Glyph(g) => say_glyph(r, font, rec, g, reason),
+            Found::Refused(_) => say(b"the font's code table covers it, and has no glyph there"),
+        },
+    }
+}
+
+fn is_drawn(reason: Reason) -> bool {
+    match reason {
+        Reason::Drawn => true,
+        _ => false,
+    }
+}
+
+// A code's line, and whether it is drawn whole.
+pub(crate) fn code_told(r: Request, font: &[u8], rec: Record, code: CharCode) -> bool {
+    print_character(code.0);
+    let told = why(font, rec, code, r.len, r.start, r.stride, r.scale);
+    match told {
+        Told::Because(reason) => {
+            say_reason(r, font, rec, code, reason);
+            say(b"\n");
+            is_drawn(reason)
+        }
+        Told::Refused(no) => {
+            refusal(no);
+            say(b"\n");
+            false
+        }
+    }
+}
+
+// The same of a text's character. A newline and a carriage return are not looked up, and nothing of them is missing.
+fn character_told(r: Request, font: &[u8], rec: Record, code: CharCode) -> bool {
+    if code.0 == 10 {
+        print_character(10);
+        say(b"a newline, which begins a new line in a text and is not looked up\n");
+        return true;
+    }
+    if code.0 == 13 {
+        print_character(13);
+        say(b"a carriage return, which does nothing in a text and is not looked up\n");
+        return true;
+    }
+    code_told(r, font, rec, code)
+}
+
+// Every character's line, and whether all are drawn whole. The text is UTF-8 to its end.
+pub(crate) fn text_told(r: Request, text: &[u8], font: &[u8], rec: Record) -> bool {
+    let mut whole = true;
+    let mut i = 0;
+    loop {
+        let here = step_at(text, i);
+        let Step::Char(code, next) = here else {
+            break;
+        };
+        whole = character_told(r, font, rec, code) & whole;
+        i = next;
+    }
+    whole
+}
