@@ -15,7 +15,9 @@ def commands():
     for words, said in shown:
         got = run(*shlex.split(words), folder=ROOT)
         printed = "".join(line.rstrip() + "\n" for line in got.stdout.decode().splitlines())
-        expect("the README's " + words, got, 0, got.stdout if printed == said else said.encode(), None)
+        missing = words.startswith("why ") and any(": drawn: " not in line for line in said.splitlines())
+        output = got.stdout if printed == said else said.encode()
+        expect("the README's " + words, got, 1 if missing else 0, output, None)
 
 
 def of_rattle():

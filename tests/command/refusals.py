@@ -129,8 +129,9 @@ def not_asked(folder):
 
 def no_room(folder):
     with open("/dev/full", "wb") as full:
-        for words in (["dump", "f.pcf"], ["show", "12"], ["help"]):
+        for words in (["dump", "f.pcf"], ["show", "12"], ["why", "f.pcf", "0"], ["help"]):
             got = run(*words, folder=folder, output=full)
             expect("%s that cannot be written" % words[0], got, 2, None, "standard output")
     expect("no temporary folder", run("dump", "f.pcf", folder=folder, TMPDIR="none"), 2, b"", "temporary folder")
     expect("none to show with", run("show", "12", folder=folder, TMPDIR="none"), 2, b"", "temporary folder")
+    expect("none to ask with", run("why", "f.pcf", "0", folder=folder, TMPDIR="none"), 2, b"", "temporary folder")

@@ -7,7 +7,8 @@ import tempfile
 
 sys.path.insert(0, os.path.dirname(os.path.dirname(os.path.abspath(__file__))))
 
-from command import builds, dumps, help_and_bench, pictures, readme, records, refusals, script, shows  # noqa: E402
+from command import (builds, dumps, help_and_bench, pictures, readme, records, refusals, script, shows,  # noqa: E402
+                     whys)
 from pcf.font_f import two_digits  # noqa: E402
 
 
@@ -15,7 +16,7 @@ def main():
     with tempfile.TemporaryDirectory() as folder:
         # the first runs may build the programs and the library, and say so
         script.store(folder, "first.pcf", two_digits())
-        for words in (["dump", "first.pcf"], ["show", "12"], ["record", "first.pcf"]):
+        for words in (["dump", "first.pcf"], ["show", "12"], ["why", "first.pcf", "0"], ["record", "first.pcf"]):
             if script.run(*words, folder=folder, error=None).returncode != 0:
                 sys.exit(1)
         dumps.good(folder)
@@ -26,6 +27,11 @@ def main():
         refusals.two_formats(folder)
         refusals.not_asked(folder)
         pictures.pictures(folder)
+        whys.every_reason(folder)
+        whys.two_bytes(folder)
+        whys.ways_to_ask(folder)
+        whys.refused(folder)
+        whys.not_asked(folder)
         refusals.no_room(folder)
         records.compiled(folder)
         records.refused(folder)

@@ -51,4 +51,4 @@ def every():
 
 def bad_orders():
     """13: two scan units that are wider than the row pad, and one that is none"""
-    return [with_bitmap_format(two_digits(), TOP | form) for form in (0x10, 0x21, 0x30)]
+    return [with_bitmap_format(two_digits(), TOP | form) for form in (0x10, 0x20, 0x30)]

@@ -81,9 +81,10 @@ def of_picture(number, info, at, cut):
     if number == 16:
         return "refusal 16: %s pass the end of the panel, which has %d pixels" % (where, at.pixels)
     if number == 35:
-        lines = max(at.pixels - p, 0) // at.stride
-        return "%d of its %d rows %s cut: %s, on a panel of %d pixels; whole lines of %d from there on: %d" % (
-            cut, info["height"], "is" if cut == 1 else "are", where, at.pixels, at.stride, lines)
+        left = max(at.pixels - p, 0) // at.stride
+        verb, plural = "is" if cut == 1 else "are", "" if left == 1 else "s"
+        return "%d of its %d rows %s cut: %s, and the panel's %d leave %d whole line%s of %d" % (
+            cut, info["height"], verb, where, at.pixels, left, plural, at.stride)
     return "blank, as a space is: %s, none of them set" % where if number == 36 else "drawn: " + where
 
 

@@ -2,7 +2,7 @@
 use crate::asked::Request;
 use crate::character::print_character;
 use crate::picture::say_picture;
-use console::refusal;
+use console::refusal_line;
 use console::say;
 use console::say_code;
 use console::say_hex;
@@ -51,7 +51,7 @@ fn say_second(c: EncodingData, code: u32) {
     say_bytes(b"second", c.low2, c.high2, code % 256);
 }
 
-// Metrics that are out of range under the ascent of the font's bounds: the first number that is.
+// Metrics that are out of range: the first number that is.
 fn say_metrics(m: MetricsUnpacked, top: i16) {
     if m.width < 0 {
         say_short(b"width is #, below 0", &[m.width]);
@@ -88,19 +88,19 @@ fn say_order(b: BitmapData) {
     say_with(b", wider than its row pad of #", &[b.pad as usize]);
 }
 
-// The reasons of a glyph with these metrics.
+// The reasons of a glyph with these metrics, under the ascent of the font's bounds.
 fn say_measured(
     r: Request,
     font: &[u8],
-    rec: Record,
+    b: BitmapData,
     g: GlyphIndex,
     m: MetricsUnpacked,
+    top: i16,
     reason: Reason,
 ) {
-    let top = rec.accel.maxbounds.ascent;
     let prepared = boxed(g, m, top);
     match prepared {
-        Prepared::Info(info) => say_picture(r, font, rec.bitmaps, info, reason),
+        Prepared::Info(info) => say_picture(r, font, b, info, reason),
         Prepared::Refused(_) => {
             say_with(b"refusal 11: it is glyph #, whose ", &[g.0 as usize]);
             say_metrics(m, top);
@@ -117,7 +117,15 @@ fn say_glyph(r: Request, font: &[u8], rec: Record, g: GlyphIndex, reason: Reason
         ),
         Reason::BitOrder => say_order(rec.bitmaps),
         _ => match metrics_of(font, rec.metrics, g) {
-            Measured::Metrics(m) => say_measured(r, font, rec, g, m, reason),
+            Measured::Metrics(m) => say_measured(
+                r,
+                font,
+                rec.bitmaps,
+                g,
+                m,
+                rec.accel.maxbounds.ascent,
+                reason,
+            ),
             Measured::Refused(_) => say_with(
                 b"refusal 10: it is glyph #, counted from 0, and the font's metrics count is #",
                 &[g.0 as usize, rec.metrics.count as usize],
@@ -156,29 +164,28 @@ pub(crate) fn code_told(r: Request, font: &[u8], rec: Record, code: CharCode) ->
             is_drawn(reason)
         }
         Told::Refused(no) => {
-            refusal(no);
-            say(b"\n");
+            refusal_line(no);
             false
         }
     }
 }
 
-// The same of a text's character. A newline and a carriage return are not looked up, and nothing of them is missing.
-fn character_told(r: Request, font: &[u8], rec: Record, code: CharCode) -> bool {
-    if code.0 == 10 {
-        print_character(10);
+// The line of a text's character that is not looked up, and whether this is one.
+fn control_told(code: u32) -> bool {
+    if code == 10 {
+        print_character(code);
         say(b"a newline, which begins a new line in a text and is not looked up\n");
         return true;
     }
-    if code.0 == 13 {
-        print_character(13);
+    if code == 13 {
+        print_character(code);
         say(b"a carriage return, which does nothing in a text and is not looked up\n");
         return true;
     }
-    code_told(r, font, rec, code)
+    false
 }
 
-// Every character's line, and whether all are drawn whole. The text is UTF-8 to its end.
+// Every character's line, and whether all that are looked up are drawn whole. The text is UTF-8 to its end.
 pub(crate) fn text_told(r: Request, text: &[u8], font: &[u8], rec: Record) -> bool {
     let mut whole = true;
     let mut i = 0;
@@ -187,7 +194,9 @@ pub(crate) fn text_told(r: Request, text: &[u8], font: &[u8], rec: Record) -> bo
         let Step::Char(code, next) = here else {
             break;
         };
-        whole = character_told(r, font, rec, code) & whole;
+        if !control_told(code.0) {
+            whole = code_told(r, font, rec, code) & whole;
+        }
         i = next;
     }
     whole

@@ -32,14 +32,6 @@ const MOST: usize = 32 + 65536 + 573440;
 
 const ROOM: usize = MOST + 1;
 
-// Whether all that is asked for is drawn whole.
-fn all_told(r: Request, text: &[u8], font: &[u8], rec: Record) -> bool {
-    if r.kind == CODE {
-        return code_told(r, font, rec, r.code);
-    }
-    text_told(r, text, font, rec)
-}
-
 fn vetting_told(font: &[u8]) {
     match vet::vet(font) {
         Vetted::Passed(_) => {}
@@ -47,13 +39,21 @@ fn vetting_told(font: &[u8]) {
     }
 }
 
+// For the script.
+fn last_line(whole: bool) {
+    say_item(b"not all drawn\n|all drawn\n", whole as usize, &[]);
+}
+
 // A text is refused as a whole, as when it is drawn.
 fn with_limits(r: Request, text: &[u8], font: &[u8], rec: Record) {
     match utf8::check(text) {
         Checked::Whole => {
             vetting_told(font);
-            let whole = all_told(r, text, font, rec);
-            say_item(b"not all drawn\n|all drawn\n", whole as usize, &[]);
+            if r.kind == CODE {
+                last_line(code_told(r, font, rec, r.code));
+                return;
+            }
+            last_line(text_told(r, text, font, rec));
         }
         Checked::Refused(no) => refusal_of(no, b"text"),
     }

@@ -65,15 +65,17 @@ fn say_data(font: &[u8], b: BitmapData, info: GlyphInfo) {
 }
 
 fn say_cut(r: Request, info: GlyphInfo, first: usize, cut: u16) {
+    let lines = whole_lines(r.len, first, r.stride);
     say_item(
         b"# of its # rows are cut: |# of its # rows is cut: ",
         (cut == 1) as usize,
         &[cut as usize, info.height as usize],
     );
     say_place(r, info, first);
-    say_with(
-        b", on a panel of # pixels; whole lines of # from there on: #",
-        &[r.len, r.stride, whole_lines(r.len, first, r.stride)],
+    say_item(
+        b", and the panel's # leave # whole lines of #|, and the panel's # leave # whole line of #",
+        (lines == 1) as usize,
+        &[r.len, lines, r.stride],
     );
 }
 

@@ -20,7 +20,10 @@ text-told-spec =
     (λ c. tt)  -- loop-holds
     (λ c κs. search needs)  -- step-at-requires
     (λ c. search needs)  -- enum-known-here
-    (λ c κs. search needs)  -- character-told-requires
+    (λ c κs. search needs)  -- control-told-requires
+    (λ c κs. search needs)  -- code-told-requires
     (λ c. search step-less)  -- loop-less
     (λ c. tt)  -- loop-again
+    (λ c. search step-less)  -- loop-less-2
+    (λ c. tt)  -- loop-again-2
     (λ c. search needs))  -- returns
