@@ -1,10 +1,12 @@
-// Says why each character of a text, or one code, is not on the glass, or that it is: a line for each. Standard input
-// has what is asked, the text and the font; see `asked`. The last line is for a script: whether all are drawn whole, or
-// what is refused. The first one says if vetting refuses the font, which is loaded without it.
+// Says why each character of a text, or one code, is not on the glass, or that it is drawn: a line for each. Standard
+// input has what is asked, the text and the font; see `asked`. The font is loaded without vetting, since most reasons
+// that lie in it are of fonts that vetting refuses; a line before the others says so. The last line says whether all
+// are drawn whole, or what is refused. These two are for a script.
 mod asked;
 mod character;
 mod lines;
 mod picture;
+mod words;
 
 use crate::asked::Asked;
 use crate::asked::CODE;
@@ -39,7 +41,6 @@ fn vetting_told(font: &[u8]) {
     }
 }
 
-// For the script.
 fn last_line(whole: bool) {
     say_item(b"not all drawn\n|all drawn\n", whole as usize, &[]);
 }
