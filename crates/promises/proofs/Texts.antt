@@ -31,7 +31,7 @@ use Rattle.promises.proofs.TextGlyphs.{Told, told-text, inked-text}
 use Rattle.promises.proofs.TextHeight.{height-within}
 
 -- within the limits 15 does not refuse
-ok-place : (start stride scale : ℕ) → start ≤ 2147483647 → 1 ≤ stride → stride ≤ 65535 → 1 ≤ scale → scale ≤ 64
+pub ok-place : (start stride scale : ℕ) → start ≤ 2147483647 → 1 ≤ stride → stride ≤ 65535 → 1 ≤ scale → scale ≤ 64
     → okPlace (placeAt start stride scale) ≡ true
 ok-place start stride scale a b c d e =
     rw (le-leb start 2147483647 a, le-leb 1 stride b, le-leb stride 65535 c, le-leb 1 scale d, le-leb scale 64 e) refl

@@ -29,6 +29,7 @@ use Rattle.bitmaps.specs.Picture.{noBitmap, unreadable, bitsOf, rowOf, rowsShor
 use Rattle.bitmaps.proofs.CutRule.{drawn-within}
 use Rattle.bitmaps.proofs.RowsInside.{rows-inside}
 use Rattle.bitmaps.proofs.Searching.{some-witness}
+use Rattle.outcome.proofs.WithinLimits.{place-limits}
 use Rattle.place.specs.Bounds.{boundsOf}
 use Rattle.place.specs.Info.{placeable}
 use Rattle.place.specs.declared.GlyphInfo.{GlyphInfo}
@@ -41,6 +42,7 @@ use Rattle.why.specs.declared.Told.{Told}
 use Rattle.why.proofs.SomeBit.{bit-found, found-bit}
 use Rattle.promises.specs.Why.{boxIn, rowsIn, bitIn, ByteBeyond, SomeSet, OfGlyph, TrueOf, rank, FirstTrue, Askable}
 use Rattle.promises.proofs.Coloured.{past-dot, dot-past}
+use Rattle.promises.proofs.Texts.{ok-place}
 use Rattle.promises.proofs.WhyCodes.{first-out, first-in, second-out, second-in, inside-slot, entry-empty, entry-some}
 use Rattle.promises.proofs.Vetting.{order-good, good-order, metrics-good, good-metrics, data-size}
 
@@ -250,28 +252,19 @@ module _ (s : List ℕ) (rec : Record) (code len : ℕ) (at : Place) where
 
   asked-limits : okPlace at ≡ true → recordFits (length s) rec ≡ true → Askable s rec at
   asked-limits ok fits =
-      let (start-stride, scale) = both (leb (at .p) 2147483647 && between 1 65535 (at .stride)) (between 1 64 (at .scale)) ok in
-      let (start, stride) = both (leb (at .p) 2147483647) (between 1 65535 (at .stride)) start-stride in
-      let (stride-low, stride-high) = both (leb 1 (at .stride)) (leb (at .stride) 65535) stride in
-      let (scale-low, scale-high) = both (leb 1 (at .scale)) (leb (at .scale) 64) scale in
+      let (start, stride-low, stride-high, scale-low, scale-high) = place-limits (at .p) (at .stride) (at .scale) ok in
       record {
         fits = fits;
-        start-high = leb-true (at .p) 2147483647 start;
-        stride-low = leb-true 1 (at .stride) stride-low;
-        stride-high = leb-true (at .stride) 65535 stride-high;
-        scale-low = leb-true 1 (at .scale) scale-low;
-        scale-high = leb-true (at .scale) 64 scale-high;
+        start-high = start;
+        stride-low = stride-low;
+        stride-high = stride-high;
+        scale-low = scale-low;
+        scale-high = scale-high;
       }
 
   within-limits : Askable s rec at → okPlace at ≡ true
   within-limits a =
-      rw (
-        le-leb (at .p) 2147483647 (a .start-high),
-        le-leb 1 (at .stride) (a .stride-low),
-        le-leb (at .stride) 65535 (a .stride-high),
-        le-leb 1 (at .scale) (a .scale-low),
-        le-leb (at .scale) 64 (a .scale-high),
-      )
+      ok-place (at .p) (at .stride) (at .scale) (a .start-high) (a .stride-low) (a .stride-high) (a .scale-low) (a .scale-high)
 
   -- a reason is given if and only if neither 6 nor 15 refuses, it is true, and none before it is
   pub why-first : (reason : Reason) → (whyOf s rec code len at ≡ Told.Because reason) ↔ (Askable s rec at × First reason)

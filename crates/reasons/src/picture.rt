@@ -5,20 +5,16 @@ use bitmaps::row_stride;
 use console::say;
 use console::say_item;
 use console::say_with;
+use glyphs::place_of;
 use outcome::ok_place;
 use place::GlyphInfo;
 use tables::BitmapData;
 use why::Reason;
-ghost use mathlib.Core.Path.{_≡_};
-ghost use Rattle.bitmaps.specs.Place.{placeAt};
-ghost use Rattle.reasons.specs.First.{firstPixel};
 
 // The pixel that a glyph begins at; outside the limits, where nothing is drawn, 0.
-fn first_pixel(info: GlyphInfo, start: usize, stride: usize, scale: usize) -> usize
-    ensures { λ r. ⌜ r ≡ firstPixel info (placeAt start stride scale) ⌝ }
-{
+fn first_pixel(info: GlyphInfo, start: usize, stride: usize, scale: usize) -> usize {
     if ok_place(start, stride, scale) {
-        return start + stride * scale * info.pad_top as usize + scale * info.pad_left as usize;
+        return place_of(info, start, stride as u16, scale as u8);
     }
     0
 }
