@@ -56,7 +56,7 @@ thk_page drawable(struct page p)
     return made;
 }
 
-static int bit(const FT_Bitmap *of, size_t row, size_t column)
+bool bit(const FT_Bitmap *of, size_t row, size_t column)
 {
     return of->buffer[row * (size_t)of->pitch + column / 8] >> (7 - column % 8) & 1;
 }

@@ -44,7 +44,8 @@ struct font {
     C(fonts) C(neither) C(strictly) C(two_formats) C(long_metrics) C(padded_to_8) C(usual) C(bounds) C(vetted)         \
     C(refused_11) C(refused_13) C(refused_14) C(numbers) C(strings) C(repeated) C(with_glyph) C(without_glyph)         \
     C(metrics) C(bitmaps) C(empty) C(not_drawn) C(defaults) C(no_default) C(characters) C(cut) C(wider)                \
-    C(out_of_range) C(other_rows) C(texts) C(letters) C(names) C(differences) C(why_of_other_rows)
+    C(out_of_range) C(other_rows) C(texts) C(letters) C(names) C(differences) C(why_of_other_rows)          \
+    C(short_16) C(short_35) C(short_36) C(short_37) C(fewer_10) C(fewer_12)
 
 /* The reasons that a code can have on a page with room for it, in a font that FreeType reads. */
 #define REASONS(C) C(31) C(32) C(33) C(34) C(11) C(13) C(14) C(36) C(37)
@@ -84,6 +85,9 @@ thk_page drawable(struct page p);
 
 /* Colours FreeType's bitmap on a page, but for columns from `cut` on. */
 void put(struct page p, const FT_Bitmap *of, size_t top, size_t left, size_t cut);
+
+/* Whether FreeType's bitmap has this bit set; the column may lie past its box. */
+bool bit(const FT_Bitmap *of, size_t row, size_t column);
 
 /* Whether FreeType's bitmap has a set bit in its rows before the column `cut`, which may lie past its box. */
 bool any_set(const FT_Bitmap *of, size_t cut);

@@ -3,8 +3,9 @@
 compares all that both answer (peers.c). FreeType does not read the names of glyphs: those are compared with the ones
 that pcf2bdf writes. Each of these fonts, and of those that follow, has to load strictly, with the record that it loads
 with, and to be refused 27 for each known table, if a bit of that table's own format is changed. And each code has to
-have the reason on a page without end that is left by the bounds in the file's code table and by FreeType, which tells
-whether there is a glyph, its metrics and its bitmap (reasons.c).
+have the reason that is left by the bounds in the file's code table and by FreeType, which tells whether there is a
+glyph, its metrics and its bitmap (reasons.c): on a page without end, and each that has a bitmap on a page that ends
+about its glyph too, and with records that count the glyph no more.
 
 All those fonts have one format. So bdftopcf writes each a second time, by turns in every format that it can: row pad,
 bit order, byte order and scan unit; the tests' own writer then pads some rows to 8 bytes. One in four has a last glyph
@@ -247,6 +248,8 @@ their columns past the box not compared
     reasons: {why_31} codes above 65,535, {why_32} outside the first-byte bounds, {why_33} outside the second-byte \
 ones, {why_34} empty entries; 11 {why_11}, 13 {why_13}, 14 {why_14}; {why_36} blank, {why_37} drawn, of which \
 {why_of_other_rows} may be either, as their rows take other bytes than the box's
+    reasons of the others on a page that ends about the glyph: 16 {short_16}, rows cut {short_35}, {short_36} blank, \
+{short_37} drawn; with records that count it no more 10 {fewer_10}, 12 {fewer_12}
     texts: {texts} with {letters} letters
     names: {names}
     differences: {differences}"""
@@ -258,6 +261,10 @@ def checked_reasons(what, count):
         (31, 32, 33, 34), (11, 13, 14, 36, 37)))
     if (without, having) != (count["without_glyph"], count["with_glyph"]) or without + having != CODES * count["fonts"]:
         fail("%s: %d reasons of codes without a glyph and %d of others, %s" % (what, without, having, count))
+    compared = count["why_36"] + count["why_37"] - count["why_of_other_rows"]
+    short = sum(count["short_%d" % number] for number in (16, 35, 36, 37))
+    if {short, count["fewer_10"], count["fewer_12"]} != {compared}:
+        fail("%s: %d glyphs have a bitmap to compare, %s" % (what, compared, count))
     if 100 * count["why_of_other_rows"] > count["with_glyph"]:
         fail("%s: whether a glyph is blank is not compared in %d of %d" % (
             what, count["why_of_other_rows"], count["with_glyph"]))
@@ -266,7 +273,8 @@ def checked_reasons(what, count):
 def report(what, count, given, *more):
     """what was counted of so many fonts given; some of `more` has to be there too"""
     for name in ("fonts", "bounds", "vetted", "numbers", "strings", "with_glyph", "bitmaps", "characters", "texts",
-                 "why_31", "why_33", "why_34", "why_36", "why_37", *more):
+                 "why_31", "why_33", "why_34", "why_36", "why_37", "short_16", "short_35", "short_36", "short_37",
+                 *more):
         if count[name] == 0:
             fail("%s: nothing was compared, %s" % (what, count))
     if count["strictly"] != given:

@@ -11,7 +11,10 @@ use core::fmt;
 /// assert_eq!(cut.to_string(), "rows cut at the buffer's end: 1");
 /// # Ok::<(), thalluskin::Refusal>(())
 /// ```
+///
+/// Other modes are to come, and with them further reasons.
 #[derive(Clone, Copy, Debug, PartialEq, Eq)]
+#[non_exhaustive]
 pub enum Reason {
     /// The code is above 65,535, and no font has a glyph for it.
     AboveCodes,

@@ -30,7 +30,7 @@ pub struct CodeRange {
 }
 
 // Whether codes are one number, and not two bytes.
-fn one_byte(c: EncodingData) -> bool
+pub fn one_byte(c: EncodingData) -> bool
     ensures { λ r. ⌜ r ≡ oneByte c ⌝ }
 {
     (c.low1 == 0) & (c.high1 == 0)

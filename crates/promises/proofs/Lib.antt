@@ -27,3 +27,5 @@ mod GivenF
 mod WhyCodes
 mod WhyFirst
 mod WhyDrawn
+mod WhyColoured
+mod WhyPassed

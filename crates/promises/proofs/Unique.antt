@@ -102,7 +102,9 @@ use Rattle.bitmaps.proofs.rows_short.Reads as rows-short-reads
 use Rattle.hexline.proofs.hex_read.Kinds as hex-read-kinds
 use Rattle.hexline.proofs.hex_read.Reads as hex-read-reads
 use Rattle.lookup.proofs.code_range.Kinds as code-range-kinds
+use Rattle.lookup.proofs.one_byte.Kinds as one-byte-kinds
 use Rattle.lookup.proofs.code_range.Reads as code-range-reads
+use Rattle.lookup.proofs.one_byte.Reads as one-byte-reads
 use Rattle.names.proofs.name_of.Kinds as name-of-kinds
 use Rattle.names.proofs.name_of.Reads as name-of-reads
 use Rattle.place.proofs.bounds_hold.Kinds as bounds-hold-kinds
@@ -326,6 +328,9 @@ rows-short-unique κs a r₁ r₂ x₁ x₂ p q = p ∙ sym q
 
 pub hex-read-unique : Fixes 1 hex-read-kinds.ps hex-read-kinds.r hex-read-reads.Post
 hex-read-unique κs a r₁ r₂ x₁ x₂ p q = p ∙ sym q
+
+pub one-byte-unique : Fixes 0 one-byte-kinds.ps one-byte-kinds.r one-byte-reads.Post
+one-byte-unique κs a r₁ r₂ x₁ x₂ p q = p ∙ sym q
 
 pub code-range-unique : Fixes 0 code-range-kinds.ps code-range-kinds.r code-range-reads.Post
 code-range-unique κs a r₁ r₂ x₁ x₂ p q = p ∙ sym q

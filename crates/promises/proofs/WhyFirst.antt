@@ -129,7 +129,7 @@ module _ (s : List ℕ) (rec : Record) (code len : ℕ) (at : Place) where
     its : (P : ℕ → Type 0) → P (g .0) → OfGlyph s rec code P
     its P p = record { glyph = g .0; found = found; holds = p }
 
-    short-beyond : rowsShort s b (g .0) (box .width) n ≡ true → ByteBeyond s rec len at (g .0)
+    pub short-beyond : rowsShort s b (g .0) (box .width) n ≡ true → ByteBeyond s rec len at (g .0)
     unfolding rowsShort bytesPast
     short-beyond e =
         let byte : ℕ → ℕ → ℕ = λ r c. rowOf s b (g .0) (box .width) r + byteOf (orderOf b) c in
@@ -215,7 +215,7 @@ module _ (s : List ℕ) (rec : Record) (code len : ℕ) (at : Place) where
   cutFor (Found.Glyph g) = boxIn s rec (g .0) .height - rowsIn s rec len at (g .0)
   cutFor (Found.Refused r) = 0
 
-  cut-is : (reason : Reason) → True reason → cutOf reason ≡ cond (eqb (rank reason) 10) (cutFor (glyphOf s (rec .codes) code)) 0
+  cut-is : (reason : Reason) → True reason → cutOf reason ≡ cond (eqb (rank reason) (rank (Reason.RowsCut 0))) (cutFor (glyphOf s (rec .codes) code)) 0
   cut-is Reason.AboveCodes w = refl
   cut-is Reason.FirstByte w = refl
   cut-is Reason.SecondByte w = refl
@@ -237,7 +237,7 @@ module _ (s : List ℕ) (rec : Record) (code len : ℕ) (at : Place) where
       (λ u.
       let same : rank q ≡ rank r = omega (arith, ltb-false (rank q) (rank r) t, ltb-false (rank r) (rank q) u) in
       let cut : cutOf q ≡ cutOf r =
-      cut-is q (f .is-true) ∙ ap (λ (k : ℕ). cond (eqb k 10) (cutFor (glyphOf s (rec .codes) code)) 0) same ∙ sym (cut-is r (g .is-true))
+      cut-is q (f .is-true) ∙ ap (λ (k : ℕ). cond (eqb k (rank (Reason.RowsCut 0))) (cutFor (glyphOf s (rec .codes) code)) 0) same ∙ sym (cut-is r (g .is-true))
       in
       at-rank q ∙ ap₂ ranked cut same ∙ sym (at-rank r)))
 
@@ -262,7 +262,7 @@ module _ (s : List ℕ) (rec : Record) (code len : ℕ) (at : Place) where
         scale-high = scale-high;
       }
 
-  within-limits : Askable s rec at → okPlace at ≡ true
+  pub within-limits : Askable s rec at → okPlace at ≡ true
   within-limits a =
       ok-place (at .p) (at .stride) (at .scale) (a .start-high) (a .stride-low) (a .stride-high) (a .scale-low) (a .scale-high)
 

@@ -148,6 +148,22 @@ pub record Askable (s : List ℕ) (rec : Record) (at : Place) : Type 0 where
   pub scale-low : 1 ≤ at .scale
   pub scale-high : at .scale ≤ 64
 
+-- the reasons that there can be with a passed font
+abbrev pub OfPassed : Reason → Type 0
+OfPassed Reason.AboveCodes = Unit {0}
+OfPassed Reason.FirstByte = Unit {0}
+OfPassed Reason.SecondByte = Unit {0}
+OfPassed Reason.EmptyEntry = Unit {0}
+OfPassed Reason.NoMetrics = ⊥
+OfPassed Reason.BadMetrics = ⊥
+OfPassed Reason.NoBitmap = ⊥
+OfPassed Reason.BitOrder = ⊥
+OfPassed Reason.BitmapShort = ⊥
+OfPassed Reason.BufferShort = Unit {0}
+OfPassed (Reason.RowsCut n) = Unit {0}
+OfPassed Reason.Blank = Unit {0}
+OfPassed Reason.Drawn = Unit {0}
+
 -- ---- drawing the same character
 
 -- what came of it: a refusal, nothing for want of a bitmap, or rows, of which so many were dropped

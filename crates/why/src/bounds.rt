@@ -1,15 +1,8 @@
 // Whether a code lies outside the bounds of a code table.
+use lookup::one_byte;
 use tables::EncodingData;
 ghost use mathlib.Core.Path.{_≡_};
-ghost use Rattle.lookup.specs.Lookup.{oneByte};
 ghost use Rattle.why.specs.Codes.{secondByte, firstOutside, secondOutside};
-
-// Whether codes are one number, and not two bytes.
-fn one_byte(c: EncodingData) -> bool
-    ensures { λ r. ⌜ r ≡ oneByte c ⌝ }
-{
-    (c.low1 == 0) & (c.high1 == 0)
-}
 
 // Whether a code's first byte is outside its bounds; where these are both 0, it has none.
 pub(crate) fn first_outside(c: EncodingData, code: u32) -> bool

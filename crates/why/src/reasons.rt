@@ -27,7 +27,7 @@ ghost use Rattle.bitmaps.specs.Picture.{rowsShort, pixelPast};
 ghost use Rattle.why.specs.Reasons.{someBit, rowsReason, placedReason, glyphReason, reasonOf};
 
 // Whether 14 refuses the first n rows of a glyph: the test of `bitmaps::rows_short`, which vetting has compiled into
-// its loop as long as nothing else calls it.
+// its loop as long as nothing else in the archive calls it.
 fn rows_lacking(s: &[u8], b: BitmapData, g: GlyphIndex, width: u16, n: u16) -> bool
     ensures { λ r. ⌜ r ≡ rowsShort (now (s .entry)) b (g .0) width n ⌝ }
 {
@@ -79,7 +79,7 @@ fn some_bit(s: &[u8], b: BitmapData, g: GlyphIndex, width: u16, height: u16) -> 
 }
 
 // The reason of a glyph whose bitmap can be read, drawn at p: 14, 16, rows cut, blank, drawn. The tests are those of
-// `glyphs::glyph_drawn`, which texts have compiled into their loop as long as nothing else calls it.
+// `glyphs::glyph_drawn`, which texts have compiled into their loop as long as nothing else in the archive calls it.
 fn rows_reason(
     s: &[u8],
     b: BitmapData,

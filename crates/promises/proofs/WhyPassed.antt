@@ -1,0 +1,42 @@
+-- With a font that passed vetting a character is not on the glass for want of a glyph, for the page's sake, or since it is blank.
+use Prim.Native.Nat.{ℕ}
+use mathlib.Core.Path.{_≡_}
+use mathlib.Core.List.{List}
+use native.Mathlib.Omega.{arith}
+use Rattle.tables.specs.declared.Record.{Record}
+use Rattle.bitmaps.specs.Place.{Place}
+use Rattle.bitmaps.proofs.CutRule.{drawn-within}
+use Rattle.glyphs.specs.Glyph.{placeOf}
+use Rattle.vet.specs.Vet.{vetted}
+use Rattle.vet.specs.declared.Vetted.{Vetted}
+use Rattle.why.specs.Why.{whyOf}
+use Rattle.why.specs.declared.Reason.{Reason}
+use Rattle.why.specs.declared.Told.{Told}
+use Rattle.promises.specs.Why.{boxIn, OfGlyph, TrueOf, OfPassed}
+use Rattle.promises.proofs.Vetting.{vet-passes, passed-glyph}
+use Rattle.promises.proofs.WhyFirst.{why-first}
+
+module _ (s : List ℕ) (rec : Record) (passed : vetted s ≡ Vetted.Passed rec) (code len : ℕ) (at : Place) where
+  true-passed : (reason : Reason) → TrueOf s rec code len at reason → OfPassed reason
+  true-passed Reason.AboveCodes w = tt
+  true-passed Reason.FirstByte w = tt
+  true-passed Reason.SecondByte w = tt
+  true-passed Reason.EmptyEntry w = tt
+  true-passed Reason.NoMetrics w = omega (arith, w .holds, passed-glyph s rec passed code (w .glyph) (w .found) .measured)
+  true-passed Reason.BadMetrics w = w .holds (passed-glyph s rec passed code (w .glyph) (w .found) .metrics)
+  true-passed Reason.NoBitmap w = omega (arith, w .holds, passed-glyph s rec passed code (w .glyph) (w .found) .pictured)
+  true-passed Reason.BitOrder w = w (vet-passes s rec .0 passed .order)
+  true-passed Reason.BitmapShort w =
+      let g = w .glyph in
+      let box = boxIn s rec g in
+      let past = w .holds in
+      let within = drawn-within len (placeOf box at) (box .height) in
+      omega (arith, past .beyond, passed-glyph s rec passed code g (w .found) .rows (past .r) (past .c) (omega (arith, past .r-below, within)) (past .c-below))
+  true-passed Reason.BufferShort w = tt
+  true-passed (Reason.RowsCut n) w = tt
+  true-passed Reason.Blank w = tt
+  true-passed Reason.Drawn w = tt
+
+  -- 10 to 14 are never the reason
+  pub passed-reason : (reason : Reason) → whyOf s rec code len at ≡ Told.Because reason → OfPassed reason
+  passed-reason reason e = let (asked, first) = why-first s rec code len at reason .0 e in true-passed reason (first .is-true)
