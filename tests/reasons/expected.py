@@ -16,7 +16,7 @@ from common import fail  # noqa: E402
 from reasons import fonts, lines  # noqa: E402
 
 CHARACTERS, CODE = 0, 1
-WIDTH, HEIGHT, START, SCALE = 12, 14, 1, 2
+WIDTH, HEIGHT, START, SCALE = 12, 14, 10, 2  # near a line's right end, which some characters pass
 
 
 def request(kind, code, width, height, start, stride, scale, text, font):

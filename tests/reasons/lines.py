@@ -24,8 +24,17 @@ def character(code):
     return "U+%04X %s" % (code, chr(code))
 
 
+def plural(n, thing):
+    return "%d %s%s" % (n, thing, "" if n == 1 else "s")
+
+
+def at_scale(at):
+    return "" if at.scale == 1 else " at scale %d" % at.scale
+
+
 def of_bytes(which, low, high, byte):
-    return "the font's code table covers %s bytes %02X to %02X, and this code's is %02X" % (which, low, high, byte)
+    covered = "%s bytes 0x%02X to 0x%02X" % (which, low, high)
+    return "the font's code table covers %s, and this code's is 0x%02X" % (covered, byte)
 
 
 def of_codes(number, c, code):
@@ -69,23 +78,45 @@ def of_font(number, b, rec, g):
     info = place_glyph(b, rec, g)
     [first] = row_starts(b, rec, g, info["width"], 1)
     row = row_stride(rec, info["width"])
-    return "its bitmap, %d by %d pixels in rows of %d byte%s, begins at byte %d of the font's bitmap data, which has " \
-        "%d bytes" % (info["width"], info["height"], row, "" if row == 1 else "s", first, bm["size"])
+    return "its bitmap, %d by %d pixels in rows of %s, begins at byte %d of the font's bitmap data, which has " \
+        "%d bytes" % (info["width"], info["height"], plural(row, "byte"), first, bm["size"])
+
+
+def of_cut(info, at, p, cut):
+    """35: rows that are cut, and what is left for the others"""
+    rows, pixels = info["height"] - cut, plural(at.pixels, "pixel")
+    verb = "is" if cut == 1 else "are"
+    words = "%d of its %d rows %s cut%s: " % (cut, info["height"], verb, at_scale(at))
+    if p >= at.pixels:
+        return words + "it begins at pixel %d, beyond the end of the panel, which has %s" % (p, pixels)
+    lines = (at.pixels - p) // at.stride
+    verb, some = "has" if at.pixels == 1 else "have", plural(lines, "whole line") if lines else "no whole line"
+    words += "from pixel %d on the panel's %s %s %s of %d left" % (p, pixels, verb, some, at.stride)
+    if lines and at.scale > 1:
+        words += ", which count%s for %s" % ("s" if lines == 1 else "", plural(rows, "row") if rows else "no row")
+    return words + (passing(info, at, p) if rows else "")
+
+
+def passing(info, at, p):
+    """of a glyph with a column that is not in the line that it begins in"""
+    lines = {q // at.stride for q in range(p, p + info["width"] * at.scale)}
+    return ", and it runs past the right end of its line" if len(lines) > 1 else ""
 
 
 def of_picture(number, info, at, cut):
     """16, and 35 to 37"""
     p = place_of(info, at.start, at.stride, at.scale)
-    scale = "" if at.scale == 1 else " at scale %d" % at.scale
-    where = "%d by %d pixels%s from pixel %d on" % (info["width"], info["height"], scale, p)
+    size = "%d by %d pixels" % (info["width"], info["height"])
+    where = "%s%s from pixel %d on" % (size, at_scale(at), p)
     if number == 16:
-        return "refusal 16: %s pass the end of the panel, which has %d pixels" % (where, at.pixels)
+        panel = "%s in lines of %d" % (plural(at.pixels, "pixel"), at.stride)
+        return "refusal 16: %s pass the end of the panel, which has %s" % (where, panel)
     if number == 35:
-        left = max(at.pixels - p, 0) // at.stride
-        verb, plural = "is" if cut == 1 else "are", "" if left == 1 else "s"
-        return "%d of its %d rows %s cut: %s, and the panel's %d leave %d whole line%s of %d" % (
-            cut, info["height"], verb, where, at.pixels, left, plural, at.stride)
-    return "blank, as a space is: %s, none of them set" % where if number == 36 else "drawn: " + where
+        return of_cut(info, at, p, cut)
+    if number == 37:
+        return "drawn: " + where + passing(info, at, p)
+    nothing = info["width"] == 0 or info["height"] == 0
+    return "blank, as a space is: " + ("its bitmap is %s" if nothing else "none of its %s is set") % size
 
 
 def said(b, rec, code, at):

@@ -21,15 +21,15 @@ use tables::MetricsUnpacked;
 use tables::Record;
 use why::Reason;
 
-// As `the font's code table covers first bytes 01 to 20, and this code's is 4E`.
+// As `the font's code table covers first bytes 0x01 to 0x20, and this code's is 0x4E`.
 fn say_bytes(which: &[u8], low: u16, high: u16, byte: u32) {
     say(b"the font's code table covers ");
     say(which);
-    say(b" bytes ");
+    say(b" bytes 0x");
     say_hex(low as u32, 2);
-    say(b" to ");
+    say(b" to 0x");
     say_hex(high as u32, 2);
-    say(b", and this code's is ");
+    say(b", and this code's is 0x");
     say_hex(byte, 2);
 }
 
