@@ -20,13 +20,14 @@ def run(*words, folder, script=SCRIPT, output=subprocess.PIPE, error=subprocess.
 
 
 def expect(what, got, status, output, said):
-    """the exit status, standard output, and words of the one line on standard error, or None for no line"""
+    """the exit status, standard output, and words of the one line on standard error, of each in a list, or None for no
+    line"""
     count()
     error = got.stderr.decode()
-    if said is None:
-        right = error == ""
-    else:
-        right = error.startswith("thalluskin: ") and error.count("\n") == 1 and said in error
+    wanted = [] if said is None else [said] if isinstance(said, str) else said
+    lines = [line + "\n" for line in error.split("\n")[:-1]]
+    right = "".join(lines) == error and len(lines) == len(wanted) and all(
+        line.startswith("thalluskin: ") and words in line for line, words in zip(lines, wanted))
     if (got.returncode, got.stdout) != (status, output) or not right:
         fail("%s: exit status %d, %s, %s" % (what, got.returncode, got.stdout[:200], error))
 

@@ -2,10 +2,11 @@
 to ask."""
 import gzip
 import os
+import subprocess
 
 import model
 from command.refusals import meaning, standing
-from command.script import expect, run, store
+from command.script import count, expect, run, store
 from command.shows import MOST_SHOWN
 from common import ROOT, fail
 from panel import expected as panel
@@ -17,21 +18,27 @@ seen = set()  # the reasons that were given
 
 
 def vetting(name, font):
-    """what is said on standard error of a font that loads and that vetting refuses, else None"""
+    """what is said on standard error of a font that loads and that vetting refuses"""
     try:
         model.vet(font)
     except model.Refused as r:
         words = "refused %02d: %s (%s)\n" % (r.number, meaning(r.number), standing(r) + name)
-        return "show does not take this font: " + words
-    return None
+        return ["show does not take this font: " + words]
+    return []
 
 
-def told(what, got, name, font, answers):
-    """the lines, the status, and what vetting says"""
+def taken(words, code):
+    """what is said of a number that is taken for a code"""
+    return ["%s is taken for the code U+%04X; for the text write -- %s\n" % (word, code, word)
+            for word in words if code is not None and word.isdecimal()]
+
+
+def told(what, got, name, font, answers, said=()):
+    """the lines, the status, and what is said of a number and by vetting"""
     numbers = [number for number, _ in answers]
     seen.update(numbers)
     status = 0 if set(numbers) <= {lines.DRAWN} else 1
-    expect(what, got, status, "".join(line for _, line in answers).encode(), vetting(name, font))
+    expect(what, got, status, "".join(line for _, line in answers).encode(), [*said, *vetting(name, font)])
 
 
 def asked(folder, name, font, words, text=None, code=None, width=72, height=21, start=0, stride=None, scale=1, **more):
@@ -39,7 +46,7 @@ def asked(folder, name, font, words, text=None, code=None, width=72, height=21, 
     at = lines.Place(width * height, start, width if stride is None else stride, scale)
     rec = model.load(font)
     answers = lines.of_text(font, rec, text, at) if code is None else [lines.of_code(font, rec, code, at)]
-    told("why %s" % words, run("why", name, *words, folder=folder, **more), name, font, answers)
+    told("why %s" % words, run("why", name, *words, folder=folder, **more), name, font, answers, taken(words, code))
 
 
 def every_reason(folder):
@@ -85,20 +92,20 @@ def ways_to_ask(folder):
     for one in "8é ~€😀U+/":
         of_meter([one], one)
     for code in (0, 0xA, 0xD, 0x20, 0x30, 0x38, 0x7F, 0xD800, 0xDFFF, 0xFFFF, 0x10000, 0x10FFFF, 0x110000, 0xFFFFFFFF):
-        of_meter(["U+%X" % code], code=code)
-        of_meter(["U+%08x" % code], code=code)
-        of_meter(["%02d" % code], code=code)
-        of_meter(["000%d" % code], code=code)
-    for text in ("U+", "U+G", "u+30", "U+30 ", "+30", "-1", "1.5", "0x30", " 30", "3 0", "²³", ""):
+        for form in ("U+%X", "U+%08x", "u+%04x", "0x%x", "0X%08X", "%02d", "000%d"):
+            of_meter([form % code], code=code)
+    for text in ("U+", "U+G", "u+", "U+30 ", "+30", "-1", "1.5", "0x", "0xG", "x30", "00x30", "0x3 ", "U+0x30", " 30",
+                 "3 0", "²³", "1²", "0x３", "U+３"):
         of_meter([text], text)
     of_meter([panel.TEXT.decode()], panel.TEXT.decode())
-    for text in ("U+0030", "65", "--", "--scale", "8"):
+    for text in ("U+0030", "u+0030", "0x41", "65", "--", "--scale", "8"):
         of_meter(["--", text], text)
     of_meter(["--scale=2", "--", "08"], "08", scale=2)
     both = lines.of_text(f, model.load(f), "00", lines.Place(72 * 21, 0, 72, 1))
     told("the font after the dashes", run("why", "--", "f.pcf", "00", folder=folder), "f.pcf", f, both)
     for locale in ("C", "C.UTF-8"):
         of_meter(["süß ²³"], "süß ²³", LC_ALL=locale)
+    unknown_locale(folder)
     of_f(["00"], code=0)
     of_f(["0", "--start", "1503"], "0", start=1503)
     of_f(["0", "--start", "1512"], "0", start=1512)
@@ -113,9 +120,7 @@ def ways_to_ask(folder):
          height=4294967295, stride=65535)
     of_f(["0", "--width=65535", "--height=4294967295", "--start=2147483647"], "0", width=65535, height=4294967295,
          start=2147483647)
-    for height in range(1, 9):
-        for start in (0, 6):
-            of_meter(["8", "--height=%d" % height, "--start=%d" % start], "8", height=height, start=start)
+    panels(of_f, of_meter)
     of_meter(["\n" * 65535], "\n" * 65535)
     full = f + bytes(MOST_SHOWN - len(f))
     asked(folder, store(folder, "wide.pcf", full), full, ["1"], "1")
@@ -123,17 +128,45 @@ def ways_to_ask(folder):
     asked(folder, "a folder/two  digits.pcf", f, ["1"], "1")
 
 
+def panels(of_f, of_meter):
+    """places near the ends of lines and of the panel, at scale 1 and above"""
+    for height in range(1, 9):
+        for start in (0, 6):
+            of_meter(["8", "--height=%d" % height, "--start=%d" % start], "8", height=height, start=start)
+    for scale in (1, 2, 3):
+        for start in range(65, 74):
+            of_meter(["8", "--start=%d" % start, "--scale=%d" % scale], "8", start=start, scale=scale)
+        for start in range(12):
+            place = dict(width=4, height=3, start=start, scale=scale)
+            of_f(["0", *("--%s=%d" % option for option in place.items())], "0", **place)
+        for height in range(1, 12):
+            of_meter(["8", "--scale=%d" % scale, "--height=%d" % height], "8", scale=scale, height=height)
+    of_f(["0", "--width=1", "--height=1"], "0", width=1, height=1)
+    of_f(["0", "--width=1", "--height=1", "--start=1"], "0", width=1, height=1, start=1)
+    of_meter(["8", "--stride=5"], "8", stride=5)
+
+
+def unknown_locale(folder):
+    """one that is not installed: bash says so when it starts, and nothing more is said"""
+    locale = dict(LC_ALL="none_such.UTF-8")
+    started = subprocess.run(["bash", "-c", ":"], stderr=subprocess.PIPE, env={**os.environ, **locale}).stderr
+    got = run("why", "f.pcf", "U+0030", folder=folder, **locale)
+    count()
+    if (got.returncode, got.stderr) != (0, started):
+        fail("in an unknown locale: exit status %d, %s" % (got.returncode, got.stderr.decode()))
+
+
 def refused(folder):
-    """fonts that do not load, and what the library refuses"""
-    def refuses(what, said, *words):
-        expect(what, run("why", *words, folder=folder), 1, b"", said)
+    """fonts that do not load, and arguments that the library refuses"""
+    def refuses(what, said, *words, status=2):
+        expect(what, run("why", *words, folder=folder), status, b"", said)
 
     limits = "refused 15: %s, a stride 1 to 65,535, a start at most 2,147,483,647\n" % meaning(15)
     for words in (["--scale=0"], ["--scale=65"], ["--stride=0"], ["--stride=65536"], ["--width=65536"],
                   ["--start=2147483648"], ["--start=4294967295", "--scale", "4294967295"]):
         refuses("why with %s" % words, limits, "f.pcf", "0", *words)
         refuses("a code with %s" % words, limits, "f.pcf", "U+0030", *words)
-    refuses("no text, and no scale", limits, "f.pcf", "", "--scale=0")
+        refuses("a number with %s" % words, limits, "f.pcf", "48", *words)
     refuses("not UTF-8", "refused 19: %s (at byte 2 of the text)" % meaning(19), "f.pcf", b"12\xff3")
     refuses("a cut character", "(at byte 3 of the text)", "f.pcf", b"21 \xc2")
     refuses("too long", "refused 19: %s (at byte 0 of the text)" % meaning(19), "f.pcf", "a" * 65536)
@@ -144,9 +177,12 @@ def refused(folder):
             try:
                 model.load(font)
             except model.Refused as r:
-                refuses(name, "refused %02d: %s (%s)\n" % (r.number, meaning(r.number), standing(r) + name), name, "0")
+                said = "refused %02d: %s (%s)\n" % (r.number, meaning(r.number), standing(r) + name)
+                refuses(name, said, name, "0", status=1)
+                refuses(name + ", and no scale", said, name, "0", "--scale=0", status=1)
                 continue
             asked(folder, name, font, ["01\U0001F600"], "01\U0001F600")
+            asked(folder, name, font, ["48"], code=48)
 
 
 def not_asked(folder):
@@ -157,6 +193,9 @@ def not_asked(folder):
     fails("nothing", "why takes a font and a character")
     fails("no character", "why takes a font and a character", "f.pcf")
     fails("no character, but options", "why takes a font and a character", "f.pcf", "--scale", "2")
+    fails("an empty text", "why takes a character", "f.pcf", "")
+    fails("an empty text behind dashes", "why takes a character", "f.pcf", "--", "")
+    fails("an empty text, and no scale", "why takes a character", "f.pcf", "", "--scale=0")
     fails("two characters", "why takes one font and one character", "f.pcf", "0", "1")
     fails("an unknown option", "why has no option '--wrap'", "f.pcf", "0", "--wrap", "3")
     fails("a font as an option", "why has no option '--font'", "--font=f.pcf", "0")
@@ -170,7 +209,8 @@ def not_asked(folder):
     fails("a height of 0", "at least 1 pixel", "f.pcf", "0", "--height=00")
     fails("a great code", "CHARACTER takes at most 4,294,967,295, not 4294967296", "f.pcf", "4294967296")
     fails("a code of many digits", "CHARACTER takes at most", "f.pcf", "9" * 40)
-    fails("a code of nine digits", "a code has eight hexadecimal digits at most", "f.pcf", "U+000000030")
+    for code in ("U+000000030", "u+000000030", "0x000000030", "0X" + "F" * 40):
+        fails("a code of nine digits or more", "a code has eight hexadecimal digits at most", "f.pcf", code)
     fails("no such font", "no such file: none.pcf", "none.pcf", "0")
     fails("no name of a font", "no such file", "", "0")
     fails("a folder for a font", "a folder", "a folder", "0")
