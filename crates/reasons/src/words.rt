@@ -9,6 +9,7 @@ use console::say_short;
 use console::say_with;
 use lookup::Found;
 use lookup::glyph_of;
+use lookup::one_byte;
 use metrics::Measured;
 use metrics::metrics_of;
 use place::Prepared;
@@ -35,7 +36,7 @@ fn say_bytes(which: &[u8], low: u16, high: u16, byte: u32) {
 
 // The second-byte bounds are for whole codes where the first-byte ones are both 0.
 fn say_second(c: EncodingData, code: u32) {
-    if (c.low1 == 0) & (c.high1 == 0) {
+    if one_byte(c) {
         say(b"the font's code table covers ");
         say_code(c.low2 as u32);
         say(b" to ");
