@@ -45,6 +45,7 @@ pub enum Reason {
     Drawn,
 }
 
+// The reason, or why there is none to give.
 pub enum Told {
     Because(Reason),
     Refused(Refusal),
