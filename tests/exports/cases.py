@@ -3,6 +3,7 @@ import random
 import struct
 
 import model
+from common import fail
 from dump import make as dump
 from exports import formats, layouts
 from fonts import make as fonts
@@ -353,6 +354,28 @@ def reasons():
                     yield call("thk_why", f, of_font, **{**page, name: value})
 
 
+# how F comes to have each reason: what is changed of its record, and of the question for '0' on 9 pixels
+OF_F = {
+    31: ({}, {"code": 65536}), 32: ({"codes.low1": 1, "codes.high1": 1}, {}), 33: ({}, {"code": 0x32}), 34: ({}, {}),
+    10: ({"metrics.count": 0}, {}), 11: ({"accel.maxbounds.ascent": 2}, {}), 12: ({"bitmaps.count": 0}, {}),
+    13: ({"bitmaps.unit": 3}, {}), 14: ({"bitmaps.size": 2}, {}), 16: ({}, {"len": 24, "stride": 6, "scale": 2}),
+    35: ({}, {"len": 8}), 36: ({"bitmaps.bits": 0x68}, {}), 37: ({}, {}),
+}
+
+
+def reasons_of_f():
+    """F with each reason; 34 by its first entry, which is emptied"""
+    f = two_digits()
+    for number, (changes, asked) in OF_F.items():
+        rec = model.load(f)
+        b = with_bytes(f, rec["codes"]["entries"], b"\xff\xff") if number == 34 else f
+        c = call("thk_why", b, model.changed(rec, changes),
+                 **{"code": 0x30, "len": 9, "start": 0, "stride": 3, "scale": 1, **asked})
+        if answered(c)[0]["reason"]["number"] != number:
+            fail("F is not asked so that its reason is %d" % number)
+        yield c
+
+
 def page_by_lot(rng, b, rec, code):
     """numbers of a page that ends around a row or a pixel of a code's glyph, if it has one that can be placed"""
     where = {"start": rng.choice((0, 0, 1, 50)), "stride": rng.choice((1, 3, 8, 33)), "scale": rng.choice((1, 1, 2, 5))}
@@ -366,5 +389,5 @@ def page_by_lot(rng, b, rec, code):
 
 
 def all_calls():
-    for group in (read, wrong_records, empty, modes, orders_by_lot, two_formats, reasons, drawn):
+    for group in (read, wrong_records, empty, modes, orders_by_lot, two_formats, reasons, reasons_of_f, drawn):
         yield from group()
