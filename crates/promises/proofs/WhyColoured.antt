@@ -1,20 +1,17 @@
 -- Of a character that is drawn some pixel gets the colour, and of one that is blank none.
-use Prim.Native.Nat.{ℕ, _+_, _*_, _≤_, _<_}
+use Prim.Native.Nat.{ℕ, _+_, _*_, _<_}
 use mathlib.Core.Path.{_≡_, refl, sym, subst, _∙_}
 use mathlib.Core.Bool.{true, false}
 use mathlib.Core.List.{List}
 use native.Mathlib.Omega.{arith}
 use lib.Dec.{leb}
-use lib.ListN.{length}
 use borrow.Author.Tests.{leb-true, leb-false}
 use Rattle.reads.proofs.Tests.{never, split}
 use Rattle.tables.specs.declared.BitmapData.{BitmapData}
 use Rattle.tables.specs.declared.MetricsUnpacked.{MetricsUnpacked}
 use Rattle.tables.specs.declared.Record.{Record}
-use Rattle.lookup.specs.Lookup.{glyphOf}
 use Rattle.metrics.specs.Measure.{glyphMetrics, metricsOf}
 use Rattle.bitmaps.specs.Place.{Place}
-use Rattle.bitmaps.specs.Limits.{okPlace}
 use Rattle.bitmaps.specs.Picture.{noBitmap, unreadable, rowsShort, pixelPast}
 use Rattle.bitmaps.specs.Draw.{rowsOf, shownAt}
 use Rattle.place.specs.Bounds.{boundsOf}

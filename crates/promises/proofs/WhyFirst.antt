@@ -1,18 +1,17 @@
 -- The reason that is given is the first that is true of the font, and the first that is true is given.
 use Prim.Native.Nat.{ℕ, _+_, _-_, _<_}
 use mathlib.Core.Path.{_≡_, refl, sym, ap, ap₂, subst, _∙_}
-use mathlib.Core.Bool.{Bool, true, false, cond, _&&_}
+use mathlib.Core.Bool.{Bool, true, false, cond}
 use mathlib.Core.List.{List, [], _∷_}
 use mathlib.Core.Logic.{_↔_}
 use native.Mathlib.Omega.{arith}
 use lib.Dec.{leb, ltb, eqb}
 use lib.ListN.{length, getD}
-use borrow.Author.Tests.{ltb-true, ltb-false, leb-true, leb-false, le-leb}
-use Rattle.reads.specs.Range.{between}
+use borrow.Author.Tests.{ltb-true, ltb-false, leb-true, leb-false}
 use Rattle.reads.specs.Said.{refusal}
 use Rattle.reads.specs.declared.GlyphIndex.{GlyphIndex}
 use Rattle.reads.specs.declared.Refusal.{Refusal}
-use Rattle.reads.proofs.Tests.{never, split, choose, both}
+use Rattle.reads.proofs.Tests.{never, split, choose}
 use Rattle.tables.specs.Fits.{recordFits}
 use Rattle.tables.specs.declared.BitmapData.{BitmapData}
 use Rattle.tables.specs.declared.Record.{Record}

@@ -12,7 +12,7 @@ use Rattle.vet.specs.declared.Vetted.{Vetted}
 use Rattle.why.specs.Why.{whyOf}
 use Rattle.why.specs.declared.Reason.{Reason}
 use Rattle.why.specs.declared.Told.{Told}
-use Rattle.promises.specs.Why.{boxIn, OfGlyph, TrueOf, OfPassed}
+use Rattle.promises.specs.Why.{boxIn, TrueOf, OfPassed}
 use Rattle.promises.proofs.Vetting.{vet-passes, passed-glyph}
 use Rattle.promises.proofs.WhyFirst.{why-first}
 
