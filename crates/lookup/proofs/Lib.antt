@@ -1,4 +1,5 @@
 pub mod EntryInside
 pub mod OutsideRange
 pub mod Refusals
+pub mod ServedBy
 pub mod Slots

@@ -8,9 +8,12 @@ use Rattle.reads.specs.Said.{NumberedBy}
 use Rattle.reads.specs.declared.Refusal.{Refusal}
 use Rattle.reads.proofs.Numbers.{has-values, has-number, whichever, the-one}
 use Rattle.tables.specs.declared.EncodingData.{EncodingData}
+use Rattle.modes.specs.declared.Mode.{Mode}
 use Rattle.lookup.specs.Lookup.{slotOf, glyphAt, glyphOf, saidFound}
+use Rattle.lookup.specs.Served.{theDefault, suppliedBy, standIn, orDefault, served, saidServed}
 use Rattle.lookup.specs.declared.Found.{Found}
 use Rattle.lookup.specs.declared.Slot.{Slot}
+use Rattle.lookup.specs.declared.Supplier.{Supplier}
 
 module _ (s : List ℕ) (c : EncodingData) (code : ℕ) where
   pub glyph-of-refusals : NumberedBy (9 ∷ []) (saidFound (glyphOf s c code))
@@ -22,3 +25,18 @@ module _ (s : List ℕ) (c : EncodingData) (code : ℕ) where
 
   pub no-glyph-nine : (r : Refusal) → glyphOf s c code ≡ Found.Refused r → r .number ≡ 9
   no-glyph-nine r e = the-one (r .number) 9 ((rw e at glyph-of-refusals) .is)
+
+module _ (s : List ℕ) (c : EncodingData) where
+  stand-in-refusals : NumberedBy (9 ∷ []) (saidServed (standIn s c))
+  unfolding standIn
+  stand-in-refusals = passed-on (theDefault c) (glyphOf s c (c .default)) (glyph-of-refusals s c (c .default)) where
+    passed-on : (by : Supplier) (x : Found) → NumberedBy (9 ∷ []) (saidFound x) → NumberedBy (9 ∷ []) (saidServed (suppliedBy by x))
+    passed-on by (Found.Glyph g) h = has-values
+    passed-on by (Found.Refused r) h = h
+
+  pub served-refusals : (mode : Mode) (code : ℕ) → NumberedBy (9 ∷ []) (saidServed (served s c mode code))
+  unfolding served
+  served-refusals mode code = by (glyphOf s c code) (glyph-of-refusals s c code) where
+    by : (x : Found) → NumberedBy (9 ∷ []) (saidFound x) → NumberedBy (9 ∷ []) (saidServed (orDefault s c mode code x))
+    by (Found.Glyph g) h = has-values
+    by (Found.Refused r) h = whichever saidServed (mode .default) stand-in-refusals h

@@ -5,17 +5,13 @@ use mathlib.Core.Bool.{Bool, true, false}
 use mathlib.Core.List.{List}
 use native.Mathlib.Nat.{mul-le-mul}
 use native.Mathlib.Omega.{arith}
-use lib.ListN.{length}
 use mir.Syntax.{w32}
 use mir.Val.{Fits}
 use borrow.Author.Tests.{lt-ltb, le-ltb, le-leb, lt-leb, eq-eqb, ne-eqb}
 use Rattle.reads.specs.Num.{u16At}
-use Rattle.reads.specs.Said.{refusal}
-use Rattle.tables.specs.Fits.{recordFits}
 use Rattle.tables.specs.declared.EncodingData.{EncodingData}
-use Rattle.tables.specs.declared.Record.{Record}
 use Rattle.lookup.specs.CodeRange.{codeRange}
-use Rattle.lookup.specs.Lookup.{oneByte, slotWhole, slotBytes, slotOf, noGlyph, entryGlyph, glyphOf, getGlyph}
+use Rattle.lookup.specs.Lookup.{oneByte, slotWhole, slotBytes, slotOf, noGlyph, entryGlyph, glyphOf}
 use Rattle.lookup.specs.declared.Found.{Found}
 use Rattle.lookup.specs.declared.Slot.{Slot}
 
@@ -92,15 +88,6 @@ module _ (s : List ℕ) (c : EncodingData) (code : ℕ) (slot : Slot) (slot-is :
   pub glyph-none : slot ≡ Slot.Nothing → noGlyph ≡ glyphOf s c code
   unfolding glyphOf
   glyph-none e = rw (← slot-is, e)
-
-module _ (s : List ℕ) (rec : Record) (code : ℕ) (fits : Bool) (fits-is : fits ≡ recordFits (length s) rec) where
-  pub glyph-fits : (r : Found) → fits ≡ true → r ≡ glyphOf s (rec .codes) code → r ≡ getGlyph s rec code
-  unfolding getGlyph
-  glyph-fits r e is = rw (← fits-is, e) is
-
-  pub glyph-unfit : fits ≡ false → Found.Refused (refusal 6 0) ≡ getGlyph s rec code
-  unfolding getGlyph
-  glyph-unfit e = rw (← fits-is, e)
 
 -- ---- the range of codes
 

@@ -1,2 +1,3 @@
 pub mod Lookup
+pub mod Served
 pub mod CodeRange

@@ -7,9 +7,7 @@ use lib.IntN.{pos}
 use Rattle.reads.specs.Num.{u16At}
 use Rattle.reads.specs.Range.{between}
 use Rattle.reads.specs.Said.{Said, refusal, says, refuses}
-use Rattle.tables.specs.Fits.{tested}
 use Rattle.tables.specs.declared.EncodingData.{EncodingData}
-use Rattle.tables.specs.declared.Record.{Record}
 use Rattle.lookup.specs.declared.Found.{Found}
 use Rattle.lookup.specs.declared.Slot.{Slot}
 
@@ -46,13 +44,9 @@ abbrev pub glyphAt : List ℕ → EncodingData → Slot → Found
 glyphAt s c (Slot.At i) = entryGlyph (u16At (c .big) s (c .entries + 2 * i))
 glyphAt s c Slot.Nothing = noGlyph
 
--- the glyph of a code, or 9
+-- a code's own glyph, or 9
 unfoldable pub glyphOf : List ℕ → EncodingData → ℕ → Found
 glyphOf s c code = glyphAt s c (slotOf c code)
-
--- `get_glyph`: 6, 9
-unfoldable pub getGlyph : List ℕ → Record → ℕ → Found
-getGlyph s rec code = tested Found.Refused s rec (glyphOf s (rec .codes) code)
 
 abbrev pub saidFound : Found → Said
 saidFound (Found.Glyph g) = says (pos (g .0) ∷ [])

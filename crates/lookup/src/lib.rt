@@ -1,18 +1,34 @@
 // From a character code to a glyph.
+mod serving;
+
 use reads::CharCode;
 use reads::GlyphIndex;
 use reads::Refusal;
 use reads::u16_at;
+pub use serving::get_glyph;
+pub use serving::serve;
 use tables::EncodingData;
-use tables::Record;
-use tables::record_fits;
 ghost use mathlib.Core.Path.{_≡_};
 ghost use Rattle.lookup.specs.CodeRange.{codeRange};
-ghost use Rattle.lookup.specs.Lookup.{oneByte, slotWhole, slotBytes, slotOf, entryGlyph, glyphOf, getGlyph};
+ghost use Rattle.lookup.specs.Lookup.{oneByte, slotWhole, slotBytes, slotOf, entryGlyph, glyphOf};
 
-// The glyph of a code.
+// A code's own glyph.
 pub enum Found {
     Glyph(GlyphIndex),
+    Refused(Refusal),
+}
+
+// The code that supplied a glyph: the one asked for, or the font's default code, which stands in for a code without a
+// glyph.
+#[repr(C)]
+pub struct Supplier {
+    pub code: CharCode,
+    pub is_default: bool,
+}
+
+// The glyph that shows a character, and the code that supplied it.
+pub enum Served {
+    Glyph(GlyphIndex, Supplier),
     Refused(Refusal),
 }
 
@@ -99,7 +115,7 @@ fn entry_glyph(g: u16) -> Found
     Found::Glyph(GlyphIndex(g))
 }
 
-// The glyph of a code in this table, or 9. Bytes past the end read as 0.
+// A code's own glyph in this table, or 9. Bytes past the end read as 0.
 pub fn glyph_of(s: &[u8], codes: EncodingData, code: CharCode) -> Found
     ensures { λ r. ⌜ r ≡ glyphOf (now (s .entry)) codes (code .0) ⌝ }
 {
@@ -110,22 +126,6 @@ pub fn glyph_of(s: &[u8], codes: EncodingData, code: CharCode) -> Found
             number: 9,
             place: 0,
         }),
-    }
-}
-
-// The glyph of a character code. Refused, both with place 0: 6 for a record that fails its test with
-// these bytes (`tables::record_fits`), 9 where the font has no glyph for the code; it has none for
-// any code above 65,535.
-pub fn get_glyph(bytes: &[u8], rec: Record, code: CharCode) -> Found
-    ensures { λ r. ⌜ r ≡ getGlyph (now (bytes .entry)) rec (code .0) ⌝ }
-{
-    if record_fits(bytes.len(), rec) {
-        glyph_of(bytes, rec.codes, code)
-    } else {
-        Found::Refused(Refusal {
-            number: 6,
-            place: 0,
-        })
     }
 }
 

@@ -3,21 +3,23 @@
 -- `pad_top` is the bounds' ascent minus its own; `pad_left` is the left bearing."
 use Prim.Native.Nat.{ℕ}
 use mathlib.Core.Bool.{Bool, cond, _&&_}
-use mathlib.Core.List.{List, [], _∷_}
+use mathlib.Core.List.{List, [], _∷_, _++_}
 use lib.IntN.{ℤ, pos, natAbs, _-ℤ_}
 use lib.Signed.{nonNeg, leZ}
 use Rattle.reads.specs.Said.{Said, refusal, says, refuses}
 use Rattle.reads.specs.declared.GlyphIndex.{GlyphIndex}
 use Rattle.tables.specs.Fits.{tested}
-use Rattle.tables.specs.declared.EncodingData.{EncodingData}
 use Rattle.tables.specs.declared.MetricsData.{MetricsData}
 use Rattle.tables.specs.declared.MetricsUnpacked.{MetricsUnpacked}
 use Rattle.tables.specs.declared.Record.{Record}
-use Rattle.lookup.specs.Lookup.{glyphOf}
-use Rattle.lookup.specs.declared.Found.{Found}
+use Rattle.modes.specs.declared.Mode.{Mode}
+use Rattle.lookup.specs.Served.{served, supplierValues}
+use Rattle.lookup.specs.declared.Served.{Served}
+use Rattle.lookup.specs.declared.Supplier.{Supplier}
 use Rattle.metrics.specs.Measure.{metricsOf}
 use Rattle.metrics.specs.declared.Measured.{Measured}
 use Rattle.place.specs.Bounds.{heightOf, inRange, boundsOf}
+use Rattle.place.specs.declared.CharPrepared.{CharPrepared}
 use Rattle.place.specs.declared.GlyphInfo.{GlyphInfo}
 use Rattle.place.specs.declared.Prepared.{Prepared}
 
@@ -47,24 +49,26 @@ withMetrics (Measured.Refused r) rest = Prepared.Refused r
 unfoldable pub infoOf : List ℕ → MetricsData → MetricsUnpacked → GlyphIndex → Prepared
 infoOf s metrics bounds g = withMetrics (metricsOf s metrics (g .0)) (λ m. boxed g m (bounds .ascent))
 
-abbrev pub withGlyph : Found → (GlyphIndex → Prepared) → Prepared
-withGlyph (Found.Glyph g) rest = rest g
-withGlyph (Found.Refused r) rest = Prepared.Refused r
-
--- a character placed: 9, 10, 11
-unfoldable pub prepared : List ℕ → EncodingData → MetricsData → MetricsUnpacked → ℕ → Prepared
-prepared s codes metrics bounds code = withGlyph (glyphOf s codes code) (λ g. infoOf s metrics bounds g)
-
 -- the same by a record's tables and bounds
 abbrev pub infoIn : List ℕ → Record → GlyphIndex → Prepared
 infoIn s rec g = infoOf s (rec .metrics) (boundsOf rec) g
 
-abbrev pub preparedIn : List ℕ → Record → ℕ → Prepared
-preparedIn s rec code = prepared s (rec .codes) (rec .metrics) (boundsOf rec) code
+-- "Placing [...] pass[es] the longer answer on": a placed glyph, and the code that supplied it
+abbrev pub placedBy : Supplier → Prepared → CharPrepared
+placedBy by (Prepared.Info i) = CharPrepared.Info i by
+placedBy by (Prepared.Refused r) = CharPrepared.Refused r
+
+abbrev pub withGlyph : Served → (GlyphIndex → Prepared) → CharPrepared
+withGlyph (Served.Glyph g by) rest = placedBy by (rest g)
+withGlyph (Served.Refused r) rest = CharPrepared.Refused r
+
+-- a character placed: 9, 10, 11
+unfoldable pub prepared : List ℕ → Record → Mode → ℕ → CharPrepared
+prepared s rec mode code = withGlyph (served s (rec .codes) mode code) (λ g. infoIn s rec g)
 
 -- `prep_char`: 6, 9, 10, 11
-unfoldable pub prepChar : List ℕ → Record → ℕ → Prepared
-prepChar s rec code = tested Prepared.Refused s rec (preparedIn s rec code)
+unfoldable pub prepChar : List ℕ → Record → Mode → ℕ → CharPrepared
+prepChar s rec mode code = tested CharPrepared.Refused s rec (prepared s rec mode code)
 
 -- the numbers of a glyph that cannot be placed
 abbrev pub ofPlacing : List ℕ
@@ -76,3 +80,7 @@ infoValues i = pos (i .glyph .0) ∷ pos (i .width) ∷ pos (i .height) ∷ pos 
 abbrev pub saidPrepared : Prepared → Said
 saidPrepared (Prepared.Info i) = says (infoValues i)
 saidPrepared (Prepared.Refused r) = refuses r
+
+abbrev pub saidPlaced : CharPrepared → Said
+saidPlaced (CharPrepared.Info i by) = says (infoValues i ++ supplierValues by)
+saidPlaced (CharPrepared.Refused r) = refuses r

@@ -1,4 +1,5 @@
 // The box of a glyph: how large its bitmap is, and where it stands against the pen and the line's top.
+use crate::CharPrepared;
 use crate::GlyphInfo;
 use crate::Prepared;
 use crate::bounds::height_of;
@@ -6,14 +7,14 @@ use crate::bounds::in_range;
 use crate::bounds::is_natural;
 use crate::bounds::natural_i16;
 use crate::bounds::natural_i32;
-use lookup::Found;
-use lookup::glyph_of;
+use lookup::Served;
+use lookup::serve;
 use metrics::Measured;
 use metrics::metrics_of;
+use modes::Mode;
 use reads::CharCode;
 use reads::GlyphIndex;
 use reads::Refusal;
-use tables::EncodingData;
 use tables::MetricsData;
 use tables::MetricsUnpacked;
 use tables::Record;
@@ -83,32 +84,33 @@ pub fn info_of(s: &[u8], metrics: MetricsData, bounds: MetricsUnpacked, g: Glyph
 }
 
 // A character's box under the maximum bounds, or 9, 10, 11. Bytes past the end read as 0.
-pub fn char_info(
-    s: &[u8],
-    codes: EncodingData,
-    metrics: MetricsData,
-    bounds: MetricsUnpacked,
-    code: CharCode,
-) -> Prepared
-    ensures { λ r. ⌜ r ≡ prepared (now (s .entry)) codes metrics bounds (code .0) ⌝ }
+pub fn char_info(s: &[u8], rec: Record, mode: Mode, code: CharCode) -> CharPrepared
+    ensures { λ r. ⌜ r ≡ prepared (now (s .entry)) rec mode (code .0) ⌝ }
 {
-    let found = glyph_of(s, codes, code);
-    match found {
-        Found::Glyph(g) => info_of(s, metrics, bounds, g),
-        Found::Refused(r) => Prepared::Refused(r),
+    let served = serve(s, rec.codes, mode, code);
+    match served {
+        Served::Glyph(g, by) => {
+            let info = info_of(s, rec.metrics, rec.accel.maxbounds, g);
+            match info {
+                Prepared::Info(i) => CharPrepared::Info(i, by),
+                Prepared::Refused(r) => CharPrepared::Refused(r),
+            }
+        }
+        Served::Refused(r) => CharPrepared::Refused(r),
     }
 }
 
-// Where and how large a character's glyph is drawn. Refused, all with place 0: 6 for a record that fails
-// its test with these bytes, 9 for a code without a glyph, 10 for a glyph without metrics, 11 for metrics
-// out of range.
-pub fn prep_char(bytes: &[u8], rec: Record, code: CharCode) -> Prepared
-    ensures { λ r. ⌜ r ≡ prepChar (now (bytes .entry)) rec (code .0) ⌝ }
+// Where and how large the glyph is drawn that shows a character in this mode, and the code that supplied it, as
+// `lookup::get_glyph` finds it. Refused, all with place 0: 6 for a record that fails its test with these bytes, 9 for a
+// code without a glyph, in default mode only if the default code has none either, 10 for a glyph without metrics, 11
+// for metrics out of range.
+pub fn prep_char(bytes: &[u8], rec: Record, mode: Mode, code: CharCode) -> CharPrepared
+    ensures { λ r. ⌜ r ≡ prepChar (now (bytes .entry)) rec mode (code .0) ⌝ }
 {
     if record_fits(bytes.len(), rec) {
-        char_info(bytes, rec.codes, rec.metrics, rec.accel.maxbounds, code)
+        char_info(bytes, rec, mode, code)
     } else {
-        Prepared::Refused(Refusal {
+        CharPrepared::Refused(Refusal {
             number: 6,
             place: 0,
         })

@@ -9,6 +9,7 @@ pub use boxes::boxed;
 pub use boxes::char_info;
 pub use boxes::info_of;
 pub use boxes::prep_char;
+use lookup::Supplier;
 use reads::GlyphIndex;
 use reads::Refusal;
 
@@ -36,8 +37,14 @@ pub enum Sized {
     Refused(Refusal),
 }
 
-// A character's glyph, placed.
+// A glyph, placed.
 pub enum Prepared {
     Info(GlyphInfo),
+    Refused(Refusal),
+}
+
+// A character's glyph, placed, and the code that supplied it.
+pub enum CharPrepared {
+    Info(GlyphInfo, Supplier),
     Refused(Refusal),
 }

@@ -1,7 +1,7 @@
-use Rattle.lookup.proofs.Slots.{glyph-fits, glyph-unfit}
+use Rattle.lookup.proofs.ServedBy.{glyph-fits, glyph-unfit}
 use borrow.Author.Needs.{needs}
-use Rattle.lookup.proofs.get_glyph.Statement.{statement}
-use Rattle.lookup.proofs.get_glyph.Tie as tie
+use Rattle.lookup.proofs.serving.get_glyph.Statement.{statement}
+use Rattle.lookup.proofs.serving.get_glyph.Tie as tie
 
 pub get-glyph-spec : {M : Type 1} → statement M
 get-glyph-spec =

@@ -1,0 +1,15 @@
+use Rattle.lookup.proofs.ServedBy.{stands-in, none-stands-in}
+use borrow.Author.Needs.{needs}
+use Rattle.lookup.proofs.serving.stand_in.Statement.{statement}
+use Rattle.lookup.proofs.serving.stand_in.Tie as tie
+
+pub stand-in-spec : {M : Type 1} → statement M
+stand-in-spec =
+    tie.close
+    (tie.spec
+    (λ c. search needs)  -- cast-t7
+    (λ c κs. search needs)  -- glyph-of-requires
+    (λ c. search needs)  -- enum-known-found
+    (λ c. search needs)  -- enum-known-found-2
+    (λ c. search stands-in)  -- returns
+    (λ c. search none-stands-in))  -- returns-2

@@ -1,0 +1,72 @@
+// The glyph that shows a character, in the caller's mode.
+use crate::Found;
+use crate::Served;
+use crate::Supplier;
+use crate::glyph_of;
+use modes::Mode;
+use reads::CharCode;
+use reads::Refusal;
+use tables::EncodingData;
+use tables::Record;
+use tables::record_fits;
+ghost use mathlib.Core.Path.{_≡_};
+ghost use Rattle.lookup.specs.Served.{standIn, served, getGlyph};
+
+// The default code's own glyph, for a code that has none, or 9.
+fn stand_in(s: &[u8], codes: EncodingData) -> Served
+    ensures { λ r. ⌜ r ≡ standIn (now (s .entry)) codes ⌝ }
+{
+    let code = CharCode(codes.default as u32);
+    let found = glyph_of(s, codes, code);
+    match found {
+        Found::Glyph(g) => Served::Glyph(
+            g,
+            Supplier {
+                code,
+                is_default: true,
+            },
+        ),
+        Found::Refused(r) => Served::Refused(r),
+    }
+}
+
+// The glyph that shows a character in this mode, by this table, or 9. Bytes past the end read as 0.
+pub fn serve(s: &[u8], codes: EncodingData, mode: Mode, code: CharCode) -> Served
+    ensures { λ r. ⌜ r ≡ served (now (s .entry)) codes mode (code .0) ⌝ }
+{
+    let found = glyph_of(s, codes, code);
+    match found {
+        Found::Glyph(g) => Served::Glyph(
+            g,
+            Supplier {
+                code,
+                is_default: false,
+            },
+        ),
+        Found::Refused(r) => {
+            if mode.default {
+                return stand_in(s, codes);
+            }
+            Served::Refused(r)
+        }
+    }
+}
+
+// The glyph that shows a character code, the code that supplied it, and whether that is the font's default code,
+// standing in. In the plain mode it is the code's own glyph; in default mode a code without one takes the glyph of the
+// default code, a code above 65,535 too. The default code itself is looked up plainly, and a code with a glyph of its
+// own is never the default, not even the default code. Refused, both with place 0: 6 for a record that fails its test
+// with these bytes (`tables::record_fits`), 9 where the font has no glyph for the code, as for any code above 65,535,
+// and in default mode only where it has none for the default code either.
+pub fn get_glyph(bytes: &[u8], rec: Record, mode: Mode, code: CharCode) -> Served
+    ensures { λ r. ⌜ r ≡ getGlyph (now (bytes .entry)) rec mode (code .0) ⌝ }
+{
+    if record_fits(bytes.len(), rec) {
+        serve(bytes, rec.codes, mode, code)
+    } else {
+        Served::Refused(Refusal {
+            number: 6,
+            place: 0,
+        })
+    }
+}
