@@ -7,6 +7,7 @@ use Rattle.tables.specs.Fits.{guard, permitted}
 use Rattle.tables.specs.declared.BitmapData.{BitmapData}
 use Rattle.tables.specs.declared.Permit.{Permit}
 use Rattle.tables.specs.declared.Record.{Record}
+use Rattle.modes.specs.declared.Mode.{Mode}
 use Rattle.bitmaps.specs.Place.{Place, placeAt}
 use Rattle.bitmaps.specs.Limits.{okPlace, okPair}
 use Rattle.bitmaps.specs.Picture.{noBitmap}
@@ -19,9 +20,9 @@ abbrev pub placeOf : GlyphInfo → Place → Place
 placeOf i at =
     placeAt (at .p + at .stride * at .scale * i .«pad_top» + at .scale * i .«pad_left») (at .stride) (at .scale)
 
--- "each given width, height and pad at most 32,767"
-abbrev pub okInfo : GlyphInfo → Bool
-okInfo i = okPair (i .width) (i .height) && okPair (i .«pad_top») (i .«pad_left»)
+-- "each given width, height and pad at most 32,767", in every mode
+abbrev pub okInfo : Mode → GlyphInfo → Bool
+okInfo mode i = okPair (i .width) (i .height) && okPair (i .«pad_top») (i .«pad_left»)
 
 -- "nothing drawn, 0 dropped"
 abbrev pub nothingDrawn : Drawn
@@ -37,12 +38,12 @@ abbrev pub inInfo : List ℕ → BitmapData → GlyphInfo → Place → ℕ → 
 inInfo s b i at n = inGlyph s b (i .glyph .0) (i .width) (placeOf i at) n
 
 -- what is tested before a placed glyph is drawn or unpacked: 6, 15
-unfoldable pub glyphReady : List ℕ → Record → GlyphInfo → Place → Permit
-glyphReady s rec i at = guard s rec (okPlace at && okInfo i)
+unfoldable pub glyphReady : List ℕ → Record → Mode → GlyphInfo → Place → Permit
+glyphReady s rec mode i at = guard s rec (okPlace at && okInfo mode i)
 
 -- `draw_glyph`: 6, 15, then 13, 14, 16
-unfoldable pub drawGlyph : List ℕ → Record → GlyphInfo → ℕ → Place → Drawn
-drawGlyph s rec i len at = permitted Drawn.Refused (glyphReady s rec i at) (glyphDrawn s (rec .bitmaps) i len at)
+unfoldable pub drawGlyph : List ℕ → Record → Mode → GlyphInfo → ℕ → Place → Drawn
+drawGlyph s rec mode i len at = permitted Drawn.Refused (glyphReady s rec mode i at) (glyphDrawn s (rec .bitmaps) i len at)
 
 -- what `draw_glyph` leaves in the buffer
 abbrev pub glyphLeaves : List ℕ → Record → GlyphInfo → Place → ℕ → Drawn → List ℕ → List ℕ

@@ -5,6 +5,7 @@ use mathlib.Core.List.{List}
 use Rattle.tables.specs.Fits.{permitted}
 use Rattle.tables.specs.declared.BitmapData.{BitmapData}
 use Rattle.tables.specs.declared.Record.{Record}
+use Rattle.modes.specs.declared.Mode.{Mode}
 use Rattle.bitmaps.specs.Picture.{noBitmap}
 use Rattle.bitmaps.specs.Unpack.{unscaled, unpackedAt, unpackedLeaves}
 use Rattle.bitmaps.specs.declared.Unpacked.{Unpacked}
@@ -18,9 +19,9 @@ glyphUnpacked s b i len start stride =
     (unpackedAt s b (i .glyph .0) (i .width) (i .height) len (placeOf i (unscaled start stride) .p) stride)
 
 -- `unpack_glyph`: 6, 15, then 13, 14, 16
-unfoldable pub unpackGlyph : List ℕ → Record → GlyphInfo → ℕ → ℕ → ℕ → Unpacked
-unpackGlyph s rec i len start stride =
-    permitted Unpacked.Refused (glyphReady s rec i (unscaled start stride)) (glyphUnpacked s (rec .bitmaps) i len start stride)
+unfoldable pub unpackGlyph : List ℕ → Record → Mode → GlyphInfo → ℕ → ℕ → ℕ → Unpacked
+unpackGlyph s rec mode i len start stride =
+    permitted Unpacked.Refused (glyphReady s rec mode i (unscaled start stride)) (glyphUnpacked s (rec .bitmaps) i len start stride)
 
 -- what `unpack_glyph` leaves in the buffer
 abbrev pub unpackLeaves : List ℕ → Record → GlyphInfo → ℕ → ℕ → Unpacked → List ℕ → List ℕ

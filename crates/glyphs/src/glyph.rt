@@ -2,6 +2,7 @@
 use bitmaps::Drawn;
 use bitmaps::Rows;
 use bitmaps::no_bitmap;
+use modes::Mode;
 use outcome::ok_pair;
 use outcome::ok_place;
 use outcome::shown_at;
@@ -32,9 +33,9 @@ pub fn place_of(info: GlyphInfo, start: usize, stride: u16, scale: u8) -> usize
     start + down + right
 }
 
-// Whether a given glyph's width, height and pads are within their limits.
-pub(crate) fn ok_info(info: GlyphInfo) -> bool
-    ensures { λ r. ⌜ r ≡ okInfo info ⌝ }
+// Whether a given glyph's width, height and pads are within their limits, which are those of every mode.
+pub(crate) fn ok_info(mode: Mode, info: GlyphInfo) -> bool
+    ensures { λ r. ⌜ r ≡ okInfo mode info ⌝ }
 {
     ok_pair(info.width as usize, info.height as usize)
         & ok_pair(info.pad_top as usize, info.pad_left as usize)
@@ -104,16 +105,17 @@ pub fn show_glyph(
 fn glyph_ready(
     bytes: &[u8],
     rec: Record,
+    mode: Mode,
     info: GlyphInfo,
     start: usize,
     stride: usize,
     scale: usize,
 ) -> Permit
-    ensures { λ r. ⌜ r ≡ glyphReady (now (bytes .entry)) rec info (placeAt start stride scale) ⌝ }
+    ensures { λ r. ⌜ r ≡ glyphReady (now (bytes .entry)) rec mode info (placeAt start stride scale) ⌝ }
 {
     guard(
         record_fits(bytes.len(), rec),
-        ok_place(start, stride, scale) & ok_info(info),
+        ok_place(start, stride, scale) & ok_info(mode, info),
     )
 }
 
@@ -121,15 +123,16 @@ fn glyph_ready(
 pub fn glyph_check(
     bytes: &[u8],
     rec: Record,
+    mode: Mode,
     info: GlyphInfo,
     len: usize,
     start: usize,
     stride: usize,
     scale: usize,
 ) -> Drawn
-    ensures { λ r. ⌜ r ≡ drawGlyph (now (bytes .entry)) rec info len (placeAt start stride scale) ⌝ }
+    ensures { λ r. ⌜ r ≡ drawGlyph (now (bytes .entry)) rec mode info len (placeAt start stride scale) ⌝ }
 {
-    let permit = glyph_ready(bytes, rec, info, start, stride, scale);
+    let permit = glyph_ready(bytes, rec, mode, info, start, stride, scale);
     match permit {
         Permit::Given => glyph_drawn(
             bytes,
@@ -153,6 +156,7 @@ pub fn glyph_check(
 pub fn draw_glyph(
     bytes: &[u8],
     rec: Record,
+    mode: Mode,
     info: GlyphInfo,
     buf: &mut [u32],
     start: usize,
@@ -160,10 +164,10 @@ pub fn draw_glyph(
     scale: usize,
     colour: u32,
 ) -> Drawn
-    ensures { λ r. ⌜ r ≡ drawGlyph (now (bytes .entry)) rec info (length (now (buf .entry))) (placeAt start stride scale) ⌝ }
+    ensures { λ r. ⌜ r ≡ drawGlyph (now (bytes .entry)) rec mode info (length (now (buf .entry))) (placeAt start stride scale) ⌝ }
     ensures { λ r. ⌜ now (buf .exit) ≡ glyphLeaves (now (bytes .entry)) rec info (placeAt start stride scale) colour r (now (buf .entry)) ⌝ }
 {
-    let permit = glyph_ready(bytes, rec, info, start, stride, scale);
+    let permit = glyph_ready(bytes, rec, mode, info, start, stride, scale);
     match permit {
         Permit::Given => show_glyph(
             bytes,

@@ -12,13 +12,14 @@ pub use glyph::glyph_check;
 pub use glyph::glyph_drawn;
 pub use glyph::place_of;
 pub use glyph::show_glyph;
+use lookup::Supplier;
 use place::GlyphInfo;
 use reads::Refusal;
 pub use unpacking::unpack_check;
 pub use unpacking::unpack_glyph;
 
-// The placed glyph, and its rows drawn and dropped.
+// The placed glyph, its rows drawn and dropped, and the code that supplied it.
 pub enum CharDrawn {
-    Glyph(GlyphInfo, Rows),
+    Glyph(GlyphInfo, Rows, Supplier),
     Refused(Refusal),
 }

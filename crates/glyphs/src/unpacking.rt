@@ -3,6 +3,7 @@ use crate::glyph::ok_info;
 use crate::glyph::place_of;
 use bitmaps::Unpacked;
 use bitmaps::no_bitmap;
+use modes::Mode;
 use outcome::ok_place;
 use outcome::unpacked_at;
 use place::GlyphInfo;
@@ -18,12 +19,19 @@ ghost use Rattle.glyphs.specs.Glyph.{glyphReady};
 ghost use Rattle.glyphs.specs.Unpack.{unpackGlyph, unpackLeaves};
 
 // The tests before a placed glyph is unpacked: 6 for the record, 15 for the place and the glyph's own numbers.
-fn unpack_ready(bytes: &[u8], rec: Record, info: GlyphInfo, start: usize, stride: usize) -> Permit
-    ensures { λ r. ⌜ r ≡ glyphReady (now (bytes .entry)) rec info (unscaled start stride) ⌝ }
+fn unpack_ready(
+    bytes: &[u8],
+    rec: Record,
+    mode: Mode,
+    info: GlyphInfo,
+    start: usize,
+    stride: usize,
+) -> Permit
+    ensures { λ r. ⌜ r ≡ glyphReady (now (bytes .entry)) rec mode info (unscaled start stride) ⌝ }
 {
     guard(
         record_fits(bytes.len(), rec),
-        ok_place(start, stride, 1) & ok_info(info),
+        ok_place(start, stride, 1) & ok_info(mode, info),
     )
 }
 
@@ -31,14 +39,15 @@ fn unpack_ready(bytes: &[u8], rec: Record, info: GlyphInfo, start: usize, stride
 pub fn unpack_check(
     bytes: &[u8],
     rec: Record,
+    mode: Mode,
     info: GlyphInfo,
     len: usize,
     start: usize,
     stride: usize,
 ) -> Unpacked
-    ensures { λ r. ⌜ r ≡ unpackGlyph (now (bytes .entry)) rec info len start stride ⌝ }
+    ensures { λ r. ⌜ r ≡ unpackGlyph (now (bytes .entry)) rec mode info len start stride ⌝ }
 {
-    let permit = unpack_ready(bytes, rec, info, start, stride);
+    let permit = unpack_ready(bytes, rec, mode, info, start, stride);
     match permit {
         Permit::Given => {
             let g = info.glyph;
@@ -63,15 +72,16 @@ pub fn unpack_check(
 pub fn unpack_glyph(
     bytes: &[u8],
     rec: Record,
+    mode: Mode,
     info: GlyphInfo,
     buf: &mut [u8],
     start: usize,
     stride: usize,
 ) -> Unpacked
-    ensures { λ r. ⌜ r ≡ unpackGlyph (now (bytes .entry)) rec info (length (now (buf .entry))) start stride ⌝ }
+    ensures { λ r. ⌜ r ≡ unpackGlyph (now (bytes .entry)) rec mode info (length (now (buf .entry))) start stride ⌝ }
     ensures { λ r. ⌜ now (buf .exit) ≡ unpackLeaves (now (bytes .entry)) rec info start stride r (now (buf .entry)) ⌝ }
 {
-    let permit = unpack_ready(bytes, rec, info, start, stride);
+    let permit = unpack_ready(bytes, rec, mode, info, start, stride);
     match permit {
         Permit::Given => {
             let g = info.glyph;

@@ -4,6 +4,7 @@ use mathlib.Core.Path.{_≡_}
 use mathlib.Core.Bool.{Bool, true, _&&_}
 use mathlib.Core.List.{List}
 use Rattle.tables.specs.declared.Record.{Record}
+use Rattle.modes.specs.declared.Mode.{Mode}
 use Rattle.utf8.specs.Decode.{decoded, charsOf}
 use Rattle.text.specs.Walk.{origin}
 use Rattle.text.specs.Text.{textFrom}
@@ -20,6 +21,6 @@ pub record Lent (ink : Bool) (len pixels : ℕ) : Type 0 where
   pub same : ink ≡ true → len ≡ pixels
 
 -- and nothing refuses its text there
-pub record Inkable (ink : Bool) (s : List ℕ) (rec : Record) (lay : Layout) (len : ℕ) (text : List ℕ) (pixels : ℕ) : Type 0 where
+pub record Inkable (ink : Bool) (s : List ℕ) (rec : Record) (mode : Mode) (lay : Layout) (len : ℕ) (text : List ℕ) (pixels : ℕ) : Type 0 where
   pub lent : Lent ink len pixels
-  pub done : ink ≡ true → (rows : TextRows) × (textFrom s rec lay len (charsOf (decoded text)) origin 0 ≡ TextDrawn.Done rows)
+  pub done : ink ≡ true → (rows : TextRows) × (textFrom s rec mode lay len (charsOf (decoded text)) origin 0 ≡ TextDrawn.Done rows)

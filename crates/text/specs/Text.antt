@@ -8,6 +8,7 @@ use lib.IntN.{pos}
 use Rattle.reads.specs.Said.{Said, refusal, says, refuses}
 use Rattle.tables.specs.Fits.{guarded}
 use Rattle.tables.specs.declared.Record.{Record}
+use Rattle.modes.specs.declared.Mode.{Mode}
 use Rattle.bitmaps.specs.Paint.{painted}
 use Rattle.bitmaps.specs.Place.{placeAt}
 use Rattle.bitmaps.specs.Limits.{okPlace}
@@ -27,19 +28,19 @@ afterChar (Drawn.Rows r) byte rest = rest (r .dropped)
 afterChar (Drawn.Refused r) byte rest = TextDrawn.Refused (refusal (r .number) byte)
 
 -- the characters that are left, into `len` pixels, with the pen here and so many rows dropped before
-unfoldable pub textFrom : List ℕ → Record → Layout → ℕ → List Char → Pen → ℕ → TextDrawn
-textFrom s rec lay len [] pen dropped = TextDrawn.Done (record { height = pen .y + lineHeight rec (lay .scale); dropped = dropped })
-textFrom s rec lay len (c ∷ cs) pen dropped =
-    let p = placed s rec lay (c .code) pen in
+unfoldable pub textFrom : List ℕ → Record → Mode → Layout → ℕ → List Char → Pen → ℕ → TextDrawn
+textFrom s rec mode lay len [] pen dropped = TextDrawn.Done (record { height = pen .y + lineHeight rec (lay .scale); dropped = dropped })
+textFrom s rec mode lay len (c ∷ cs) pen dropped =
+    let p = placed s rec mode lay (c .code) pen in
     afterChar (placedDrawn s rec lay len p) (c .byte)
-    (λ more. textFrom s rec lay len cs (penAfter lay p pen) (dropped + more))
+    (λ more. textFrom s rec mode lay len cs (penAfter lay p pen) (dropped + more))
 
 -- pixel k is one that these characters colour
-unfoldable pub inText : List ℕ → Record → Layout → ℕ → List Char → Pen → ℕ → Bool
-inText s rec lay len [] pen k = false
-inText s rec lay len (c ∷ cs) pen k =
-    let p = placed s rec lay (c .code) pen in
-    inPlaced s rec lay len p k || inText s rec lay len cs (penAfter lay p pen) k
+unfoldable pub inText : List ℕ → Record → Mode → Layout → ℕ → List Char → Pen → ℕ → Bool
+inText s rec mode lay len [] pen k = false
+inText s rec mode lay len (c ∷ cs) pen k =
+    let p = placed s rec mode lay (c .code) pen in
+    inPlaced s rec lay len p k || inText s rec mode lay len cs (penAfter lay p pen) k
 
 -- 19, then 11 for the bounds; else the line height
 abbrev pub readyText : Record → Layout → Checked → Ready
@@ -57,14 +58,14 @@ whenReady (Ready.Line line) answer = answer
 whenReady (Ready.Refused r) answer = TextDrawn.Refused r
 
 -- `draw_string`: "6, 15, 19, then the font's bounds [...], then per character"
-unfoldable pub drawString : List ℕ → Record → List ℕ → ℕ → Layout → TextDrawn
-drawString s rec text len lay = whenReady (ready s rec text lay) (textFrom s rec lay len (charsOf (decoded text)) origin 0)
+unfoldable pub drawString : List ℕ → Record → Mode → List ℕ → ℕ → Layout → TextDrawn
+drawString s rec mode text len lay = whenReady (ready s rec text lay) (textFrom s rec mode lay len (charsOf (decoded text)) origin 0)
 
 -- what `draw_string` leaves in the buffer
-abbrev pub stringLeaves : List ℕ → Record → List ℕ → Layout → ℕ → TextDrawn → List ℕ → List ℕ
-stringLeaves s rec text lay colour (TextDrawn.Done t) old =
-    painted (inText s rec lay (length old) (charsOf (decoded text)) origin) colour old
-stringLeaves s rec text lay colour (TextDrawn.Refused r) old = old
+abbrev pub stringLeaves : List ℕ → Record → Mode → List ℕ → Layout → ℕ → TextDrawn → List ℕ → List ℕ
+stringLeaves s rec mode text lay colour (TextDrawn.Done t) old =
+    painted (inText s rec mode lay (length old) (charsOf (decoded text)) origin) colour old
+stringLeaves s rec mode text lay colour (TextDrawn.Refused r) old = old
 
 abbrev pub saidText : TextDrawn → Said
 saidText (TextDrawn.Done t) = says (pos (t .height) ∷ pos (t .dropped) ∷ [])

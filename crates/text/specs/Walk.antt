@@ -1,6 +1,7 @@
 -- The pen's walk over a text. From document 01: "Texts: x = y = 0; carriage return is skipped; newline sets x to 0 and adds the line
 -- height (scale × bounds' sum) to y; a code without glyph is skipped; if x + width × scale >= wrap_at, the same as a newline first;
--- draw at start + y × stride + x; x grows by width × scale."
+-- draw at start + y × stride + x; x grows by width × scale." From document 02: "Placing, characters, texts and R-1 pass the longer
+-- answer on"; a newline and a carriage return are no codes to look up.
 use Prim.Native.Nat.{ℕ, _+_, _*_}
 use mathlib.Core.Bool.{Bool, false, cond}
 use mathlib.Core.List.{List}
@@ -8,8 +9,9 @@ use lib.Dec.{leb, eqb}
 use lib.IntN.{natAbs}
 use Rattle.reads.specs.Said.{refusal}
 use Rattle.tables.specs.declared.Record.{Record}
-use Rattle.lookup.specs.Lookup.{glyphOf}
-use Rattle.lookup.specs.declared.Found.{Found}
+use Rattle.modes.specs.declared.Mode.{Mode}
+use Rattle.lookup.specs.Served.{served}
+use Rattle.lookup.specs.declared.Served.{Served}
 use Rattle.bitmaps.specs.Place.{Place, placeAt}
 use Rattle.bitmaps.specs.declared.Drawn.{Drawn}
 use Rattle.place.specs.Bounds.{heightOf, boundsOf}
@@ -60,16 +62,16 @@ placeInfo rec lay pen (Prepared.Info i) = Placed.Glyph (wrapped rec lay i pen) i
 placeInfo rec lay pen (Prepared.Refused r) = Placed.Refused (r .number)
 
 -- "a code without glyph is skipped"
-abbrev pub placeFound : List ℕ → Record → Layout → Pen → Found → Placed
-placeFound s rec lay pen (Found.Glyph g) = placeInfo rec lay pen (infoIn s rec g)
-placeFound s rec lay pen (Found.Refused r) = Placed.Skip pen
+abbrev pub placeFound : List ℕ → Record → Layout → Pen → Served → Placed
+placeFound s rec lay pen (Served.Glyph g by) = placeInfo rec lay pen (infoIn s rec g)
+placeFound s rec lay pen (Served.Refused r) = Placed.Skip pen
 
 -- what a character does with the pen here
-unfoldable pub placed : List ℕ → Record → Layout → ℕ → Pen → Placed
-placed s rec lay code pen =
+unfoldable pub placed : List ℕ → Record → Mode → Layout → ℕ → Pen → Placed
+placed s rec mode lay code pen =
     cond (eqb code 13) (Placed.Skip pen)
     (cond (eqb code 10) (Placed.Skip (newline (lineHeight rec (lay .scale)) pen))
-    (placeFound s rec lay pen (glyphOf s (rec .codes) code)))
+    (placeFound s rec lay pen (served s (rec .codes) mode code)))
 
 -- "draw at start + y × stride + x"
 abbrev pub spot : Layout → Pen → Place

@@ -12,6 +12,7 @@ use bitmaps::Drawn;
 use bitmaps::Rows;
 use glyphs::glyph_drawn;
 use glyphs::show_glyph;
+use modes::Mode;
 use reads::Refusal;
 use tables::Record;
 use utf8::Step;
@@ -119,6 +120,7 @@ fn turn_drawn(
 pub(crate) fn text_pass(
     s: &[u8],
     rec: Record,
+    mode: Mode,
     lay: Layout,
     line: usize,
     len: usize,
@@ -129,9 +131,9 @@ pub(crate) fn text_pass(
 ) -> TextDrawn
     requires { ⌜ Settled rec lay line ⌝ }
     requires { ⌜ Readable (now text) ⌝ }
-    requires { ⌜ Inkable ink (now s) rec lay len (now text) (length (now buf)) ⌝ }
-    ensures { λ r. ⌜ r ≡ textFrom (now (s .entry)) rec lay len (charsOf (decoded (now (text .entry)))) origin 0 ⌝ }
-    ensures { λ r. ⌜ now (buf .exit) ≡ painted (inked ink (inText (now (s .entry)) rec lay len (charsOf (decoded (now (text .entry)))) origin)) colour (now (buf .entry)) ⌝ }
+    requires { ⌜ Inkable ink (now s) rec mode lay len (now text) (length (now buf)) ⌝ }
+    ensures { λ r. ⌜ r ≡ textFrom (now (s .entry)) rec mode lay len (charsOf (decoded (now (text .entry)))) origin 0 ⌝ }
+    ensures { λ r. ⌜ now (buf .exit) ≡ painted (inked ink (inText (now (s .entry)) rec mode lay len (charsOf (decoded (now (text .entry)))) origin)) colour (now (buf .entry)) ⌝ }
 {
     let mut i: usize = 0;
     let mut pen = Pen { x: 0, y: 0 };
@@ -140,7 +142,7 @@ pub(crate) fn text_pass(
         let here = step_at(text, i);
         match here {
             Step::Char(code, next) => {
-                let placed = placed_at(s, rec, lay, line, code, pen);
+                let placed = placed_at(s, rec, mode, lay, line, code, pen);
                 let drawn = turn_drawn(s, rec, lay, line, len, &mut *buf, placed, ink, colour);
                 match drawn {
                     Drawn::Rows(rows) => {

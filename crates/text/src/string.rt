@@ -4,6 +4,7 @@ use crate::Ready;
 use crate::TextDrawn;
 use crate::Wrap;
 use crate::pass::text_pass;
+use modes::Mode;
 use outcome::ok_place;
 use place::Sized;
 use place::bounds_sized;
@@ -49,6 +50,7 @@ fn ready_for(bytes: &[u8], rec: Record, text: &[u8], lay: Layout) -> Ready
 pub fn text_check(
     bytes: &[u8],
     rec: Record,
+    mode: Mode,
     text: &[u8],
     len: usize,
     start: usize,
@@ -56,7 +58,7 @@ pub fn text_check(
     stride: usize,
     scale: usize,
 ) -> TextDrawn
-    ensures { λ r. ⌜ r ≡ drawString (now (bytes .entry)) rec (now (text .entry)) len (record { start = start; wrap = wrap; stride = stride; scale = scale }) ⌝ }
+    ensures { λ r. ⌜ r ≡ drawString (now (bytes .entry)) rec mode (now (text .entry)) len (record { start = start; wrap = wrap; stride = stride; scale = scale }) ⌝ }
 {
     let lay = Layout {
         start,
@@ -69,7 +71,18 @@ pub fn text_check(
         Ready::Line(line) => {
             // A pass takes a buffer; without ink it colours nothing there.
             let mut unused = [0; 1];
-            text_pass(bytes, rec, lay, line, len, &mut unused, text, false, 0)
+            text_pass(
+                bytes,
+                rec,
+                mode,
+                lay,
+                line,
+                len,
+                &mut unused,
+                text,
+                false,
+                0,
+            )
         }
         Ready::Refused(r) => TextDrawn::Refused(r),
     }
@@ -80,7 +93,8 @@ pub fn text_check(
 // `glyphs::draw_char` draws it, and moves the pen right by its width. A newline moves the pen to the next
 // line; so does a glyph that would reach `wrap` pixels from the line's beginning, before it is drawn, at the
 // beginning too, and by one line at most. A carriage return and a code without a glyph are skipped, and not
-// counted; a glyph without a bitmap draws nothing, but wraps and moves the pen like any other.
+// counted; in default mode a code without a glyph is shown by that of the default code, and skipped only if
+// that has none either. A glyph without a bitmap draws nothing, but wraps and moves the pen like any other.
 //
 // Refused, and then no pixel is coloured: 6 for a record that fails its test with these bytes, 15 for a
 // start, stride or scale outside its limits (`outcome::ok_place`), both with place 0; 19 for a text over
@@ -91,6 +105,7 @@ pub fn text_check(
 pub fn draw_string(
     bytes: &[u8],
     rec: Record,
+    mode: Mode,
     text: &[u8],
     buf: &mut [u32],
     start: usize,
@@ -99,8 +114,8 @@ pub fn draw_string(
     scale: usize,
     colour: u32,
 ) -> TextDrawn
-    ensures { λ r. ⌜ r ≡ drawString (now (bytes .entry)) rec (now (text .entry)) (length (now (buf .entry))) (record { start = start; wrap = wrap; stride = stride; scale = scale }) ⌝ }
-    ensures { λ r. ⌜ now (buf .exit) ≡ stringLeaves (now (bytes .entry)) rec (now (text .entry)) (record { start = start; wrap = wrap; stride = stride; scale = scale }) colour r (now (buf .entry)) ⌝ }
+    ensures { λ r. ⌜ r ≡ drawString (now (bytes .entry)) rec mode (now (text .entry)) (length (now (buf .entry))) (record { start = start; wrap = wrap; stride = stride; scale = scale }) ⌝ }
+    ensures { λ r. ⌜ now (buf .exit) ≡ stringLeaves (now (bytes .entry)) rec mode (now (text .entry)) (record { start = start; wrap = wrap; stride = stride; scale = scale }) colour r (now (buf .entry)) ⌝ }
 {
     let lay = Layout {
         start,
@@ -112,10 +127,32 @@ pub fn draw_string(
     match ready {
         Ready::Line(line) => {
             let len = buf.len();
-            let answer = text_pass(bytes, rec, lay, line, len, &mut *buf, text, false, colour);
+            let answer = text_pass(
+                bytes,
+                rec,
+                mode,
+                lay,
+                line,
+                len,
+                &mut *buf,
+                text,
+                false,
+                colour,
+            );
             match answer {
                 TextDrawn::Done(rows) => {
-                    text_pass(bytes, rec, lay, line, len, &mut *buf, text, true, colour);
+                    text_pass(
+                        bytes,
+                        rec,
+                        mode,
+                        lay,
+                        line,
+                        len,
+                        &mut *buf,
+                        text,
+                        true,
+                        colour,
+                    );
                     TextDrawn::Done(rows)
                 }
                 TextDrawn::Refused(r) => TextDrawn::Refused(r),

@@ -3,10 +3,11 @@ use crate::Layout;
 use crate::Pen;
 use crate::Placed;
 use crate::Wrap;
-use lookup::Found;
-use lookup::glyph_of;
+use lookup::Served;
+use lookup::serve;
 use metrics::Measured;
 use metrics::metrics_of;
+use modes::Mode;
 use place::GlyphInfo;
 use place::Prepared;
 use place::boxed;
@@ -83,6 +84,7 @@ fn place_glyph(s: &[u8], rec: Record, lay: Layout, line: usize, g: GlyphIndex, p
 pub(crate) fn placed_at(
     s: &[u8],
     rec: Record,
+    mode: Mode,
     lay: Layout,
     line: usize,
     code: CharCode,
@@ -90,7 +92,7 @@ pub(crate) fn placed_at(
 ) -> Placed
     requires { ⌜ Settled rec lay line ⌝ }
     requires { ⌜ PenIn 65535 pen ⌝ }
-    ensures { λ r. ⌜ r ≡ placed (now (s .entry)) rec lay (code .0) pen ⌝ }
+    ensures { λ r. ⌜ r ≡ placed (now (s .entry)) rec mode lay (code .0) pen ⌝ }
 {
     if code.0 == 13 {
         return Placed::Skip(pen);
@@ -98,10 +100,10 @@ pub(crate) fn placed_at(
     if code.0 == 10 {
         return Placed::Skip(newline(line, pen));
     }
-    let found = glyph_of(s, rec.codes, code);
-    match found {
-        Found::Glyph(g) => place_glyph(s, rec, lay, line, g, pen),
-        Found::Refused(r) => Placed::Skip(pen),
+    let served = serve(s, rec.codes, mode, code);
+    match served {
+        Served::Glyph(g, _) => place_glyph(s, rec, lay, line, g, pen),
+        Served::Refused(_) => Placed::Skip(pen),
     }
 }
 

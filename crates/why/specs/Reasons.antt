@@ -1,16 +1,19 @@
 -- Why a character is not on the glass, or is. From document 02: "names one reason: code above 65,535, outside the first-byte bounds (unless
 -- both are 0), outside the second-byte bounds (the whole code if they are), entry 65,535, refusals 10 to 14 or 16, rows cut with how many, no
--- set bit in the drawn rows, or drawn. The first in this order is given".
+-- set bit in the drawn rows, or drawn. The first in this order is given"; "Placing, characters, texts and R-1 pass the longer answer on
+-- (R-1's first four reasons only with 9)".
 use Prim.Native.Nat.{ℕ, _-_}
 use mathlib.Core.Bool.{Bool, cond}
 use mathlib.Core.List.{List}
 use lib.Dec.{leb, ltb}
 use Rattle.reads.specs.declared.GlyphIndex.{GlyphIndex}
 use Rattle.tables.specs.declared.BitmapData.{BitmapData}
+use Rattle.tables.specs.declared.EncodingData.{EncodingData}
 use Rattle.tables.specs.declared.MetricsUnpacked.{MetricsUnpacked}
 use Rattle.tables.specs.declared.Record.{Record}
-use Rattle.lookup.specs.Lookup.{glyphOf}
-use Rattle.lookup.specs.declared.Found.{Found}
+use Rattle.modes.specs.declared.Mode.{Mode}
+use Rattle.lookup.specs.Served.{itself, served}
+use Rattle.lookup.specs.declared.Served.{Served}
 use Rattle.metrics.specs.Measure.{glyphMetrics}
 use Rattle.bitmaps.specs.Paint.{some}
 use Rattle.bitmaps.specs.Place.{Place}
@@ -22,6 +25,7 @@ use Rattle.place.specs.declared.GlyphInfo.{GlyphInfo}
 use Rattle.glyphs.specs.Glyph.{placeOf}
 use Rattle.why.specs.Codes.{firstOutside, secondOutside}
 use Rattle.why.specs.declared.Reason.{Reason}
+use Rattle.why.specs.declared.Told.{Told}
 
 -- some bit of glyph g is set in its first n rows, below its width
 unfoldable pub someBit : List ℕ → BitmapData → ℕ → ℕ → ℕ → Bool
@@ -58,15 +62,19 @@ unfoldable pub glyphReason : List ℕ → Record → GlyphIndex → ℕ → Plac
 glyphReason s rec g len at =
     cond (leb (rec .metrics .count) (g .0)) Reason.NoMetrics (measuredReason s rec g len at (glyphMetrics s (rec .metrics) (g .0)))
 
--- a code inside the bounds: "entry 65,535", then those of its glyph
-abbrev pub entryReason : List ℕ → Record → ℕ → Place → Found → Reason
-entryReason s rec len at (Found.Glyph g) = glyphReason s rec g len at
-entryReason s rec len at (Found.Refused r) = Reason.EmptyEntry
-
--- a code: "The first in this order is given"
-unfoldable pub reasonOf : List ℕ → Record → ℕ → ℕ → Place → Reason
-reasonOf s rec code len at =
+-- a code without a glyph to show it: "code above 65,535, outside the first-byte bounds [...], outside the second-byte bounds [...], entry
+-- 65,535"
+unfoldable pub codeReason : EncodingData → ℕ → Reason
+codeReason c code =
     cond (ltb 65535 code) Reason.AboveCodes
-    (cond (firstOutside (rec .codes) code) Reason.FirstByte
-    (cond (secondOutside (rec .codes) code) Reason.SecondByte
-    (entryReason s rec len at (glyphOf s (rec .codes) code))))
+    (cond (firstOutside c code) Reason.FirstByte
+    (cond (secondOutside c code) Reason.SecondByte Reason.EmptyEntry))
+
+-- "R-1's first four reasons only with 9", and of the code asked for; the others of the glyph, which that code supplied
+abbrev pub servedReason : List ℕ → Record → ℕ → ℕ → Place → Served → Told
+servedReason s rec code len at (Served.Glyph g by) = Told.Because (glyphReason s rec g len at) by
+servedReason s rec code len at (Served.Refused r) = Told.Because (codeReason (rec .codes) code) (itself code)
+
+-- a character in this mode: "The first in this order is given"
+unfoldable pub reasonOf : List ℕ → Record → Mode → ℕ → ℕ → Place → Told
+reasonOf s rec mode code len at = servedReason s rec code len at (served s (rec .codes) mode code)

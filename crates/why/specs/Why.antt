@@ -1,11 +1,13 @@
 -- The call that names the reason. From document 02: "They want a tool that takes font, code, start, stride, scale and buffer length and
 -- names one reason". From document 01, the order of every call: "6, 15".
 use Prim.Native.Nat.{ℕ}
-use mathlib.Core.List.{List, [], _∷_}
+use mathlib.Core.List.{List, [], _∷_, _++_}
 use lib.IntN.{ℤ, pos}
 use Rattle.reads.specs.Said.{Said, says, refuses}
 use Rattle.tables.specs.Fits.{guarded}
 use Rattle.tables.specs.declared.Record.{Record}
+use Rattle.modes.specs.declared.Mode.{Mode}
+use Rattle.lookup.specs.Served.{supplierValues}
 use Rattle.bitmaps.specs.Place.{Place}
 use Rattle.bitmaps.specs.Limits.{okPlace}
 use Rattle.why.specs.Reasons.{reasonOf}
@@ -14,8 +16,8 @@ use Rattle.why.specs.declared.ReasonNumber.{ReasonNumber}
 use Rattle.why.specs.declared.Told.{Told}
 
 -- `why`: 6, 15, or the reason
-unfoldable pub whyOf : List ℕ → Record → ℕ → ℕ → Place → Told
-whyOf s rec code len at = guarded Told.Refused s rec (okPlace at) (Told.Because (reasonOf s rec code len at))
+unfoldable pub whyOf : List ℕ → Record → Mode → ℕ → ℕ → Place → Told
+whyOf s rec mode code len at = guarded Told.Refused s rec (okPlace at) (reasonOf s rec mode code len at)
 
 -- a reason's number, of a refusal its own, and of the others, in their order, one that no refusal has; and "how many" rows were cut
 abbrev pub numbered : ℕ → ReasonNumber
@@ -40,5 +42,5 @@ abbrev pub reasonValues : ReasonNumber → List ℤ
 reasonValues r = pos (r .number) ∷ pos (r .cut) ∷ []
 
 abbrev pub saidTold : Told → Said
-saidTold (Told.Because r) = says (reasonValues (reasonNumber r))
+saidTold (Told.Because r by) = says (reasonValues (reasonNumber r) ++ supplierValues by)
 saidTold (Told.Refused r) = refuses r

@@ -4,6 +4,8 @@ mod bounds;
 mod reasons;
 
 use crate::reasons::reason_of;
+use lookup::Supplier;
+use modes::Mode;
 use outcome::ok_place;
 use reads::CharCode;
 use reads::Refusal;
@@ -45,9 +47,10 @@ pub enum Reason {
     Drawn,
 }
 
-// The reason, or why there is none to give.
+// The reason, with the code that it speaks of, or why there is none to give. The first four speak of the code asked
+// for, the others of the code that supplied the glyph.
 pub enum Told {
-    Because(Reason),
+    Because(Reason, Supplier),
     Refused(Refusal),
 }
 
@@ -59,34 +62,38 @@ pub struct ReasonNumber {
     pub cut: u16,
 }
 
-// Why `glyphs::draw_char` shows a character so, with a buffer of `len` pixels, which may be any number: the first
-// reason that is true of the font's bytes and the arguments. Refused, both with place 0: 6 for a record that fails its
-// test with these bytes; 15 for a start, stride or scale outside its limits (`outcome::ok_place`).
+// Why `glyphs::draw_char` shows a character so in this mode, with a buffer of `len` pixels, which may be any number: the
+// first reason that is true of the font's bytes and the arguments, and the code that it speaks of. The first four are
+// given only where drawing refuses the character with 9, so in default mode only where the default code has no glyph
+// either. Refused, both with place 0: 6 for a record that fails its test with these bytes; 15 for a start, stride or
+// scale outside its limits (`outcome::ok_place`).
 pub fn why(
     bytes: &[u8],
     rec: Record,
+    mode: Mode,
     code: CharCode,
     len: usize,
     start: usize,
     stride: usize,
     scale: usize,
 ) -> Told
-    ensures { λ r. ⌜ r ≡ whyOf (now (bytes .entry)) rec (code .0) len (placeAt start stride scale) ⌝ }
+    ensures { λ r. ⌜ r ≡ whyOf (now (bytes .entry)) rec mode (code .0) len (placeAt start stride scale) ⌝ }
 {
     let permit = guard(
         record_fits(bytes.len(), rec),
         ok_place(start, stride, scale),
     );
     match permit {
-        Permit::Given => Told::Because(reason_of(
+        Permit::Given => reason_of(
             bytes,
             rec,
+            mode,
             code,
             len,
             start,
             stride as u16,
             scale as u8,
-        )),
+        ),
         Permit::Refused(r) => Told::Refused(r),
     }
 }

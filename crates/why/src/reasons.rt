@@ -1,5 +1,6 @@
 // The reasons in their order, from the code to the picture. Nothing here tests the record: bytes past the end are 0.
 use crate::Reason;
+use crate::Told;
 use crate::bounds::first_outside;
 use crate::bounds::second_outside;
 use bitmaps::bytes_past;
@@ -9,8 +10,10 @@ use bitmaps::order_of;
 use bitmaps::row_stride;
 use bitmaps::unreadable;
 use glyphs::place_of;
-use lookup::Found;
-use lookup::glyph_of;
+use lookup::Served;
+use lookup::Supplier;
+use lookup::serve;
+use modes::Mode;
 use outcome::rows_drawn;
 use outcome::rows_past;
 use place::GlyphInfo;
@@ -19,12 +22,13 @@ use place::info_of;
 use reads::CharCode;
 use reads::GlyphIndex;
 use tables::BitmapData;
+use tables::EncodingData;
 use tables::Record;
 ghost use mathlib.Core.Path.{_≡_};
 ghost use mathlib.Core.Bool.{false};
 ghost use Rattle.bitmaps.specs.Place.{placeAt};
 ghost use Rattle.bitmaps.specs.Picture.{rowsShort, pixelPast};
-ghost use Rattle.why.specs.Reasons.{someBit, rowsReason, placedReason, glyphReason, reasonOf};
+ghost use Rattle.why.specs.Reasons.{someBit, rowsReason, placedReason, glyphReason, codeReason, reasonOf};
 
 // Whether 14 refuses the first n rows of a glyph: the test of `bitmaps::rows_short`, which vetting has compiled into
 // its loop as long as nothing else in the archive calls it.
@@ -154,30 +158,46 @@ fn glyph_reason(
     }
 }
 
-// The reason of a code: above 65,535, outside the bounds of its bytes, no glyph, then as above.
+// The reason of a code without a glyph to show it: above 65,535, outside the bounds of its bytes, an empty entry.
+fn code_reason(codes: EncodingData, code: CharCode) -> Reason
+    ensures { λ r. ⌜ r ≡ codeReason codes (code .0) ⌝ }
+{
+    if 65535 < code.0 {
+        return Reason::AboveCodes;
+    }
+    if first_outside(codes, code.0) {
+        return Reason::FirstByte;
+    }
+    if second_outside(codes, code.0) {
+        return Reason::SecondByte;
+    }
+    Reason::EmptyEntry
+}
+
+// The reason of a character: of the code asked for, where no glyph shows it, and else of the glyph, as above.
 pub(crate) fn reason_of(
     s: &[u8],
     rec: Record,
+    mode: Mode,
     code: CharCode,
     len: usize,
     start: usize,
     stride: u16,
     scale: u8,
-) -> Reason
-    ensures { λ r. ⌜ r ≡ reasonOf (now (s .entry)) rec (code .0) len (placeAt start stride scale) ⌝ }
+) -> Told
+    ensures { λ r. ⌜ r ≡ reasonOf (now (s .entry)) rec mode (code .0) len (placeAt start stride scale) ⌝ }
 {
-    if 65535 < code.0 {
-        return Reason::AboveCodes;
-    }
-    if first_outside(rec.codes, code.0) {
-        return Reason::FirstByte;
-    }
-    if second_outside(rec.codes, code.0) {
-        return Reason::SecondByte;
-    }
-    let found = glyph_of(s, rec.codes, code);
-    match found {
-        Found::Glyph(g) => glyph_reason(s, rec, g, len, start, stride, scale),
-        Found::Refused(_) => Reason::EmptyEntry,
+    let served = serve(s, rec.codes, mode, code);
+    match served {
+        Served::Glyph(g, by) => {
+            Told::Because(glyph_reason(s, rec, g, len, start, stride, scale), by)
+        }
+        Served::Refused(_) => Told::Because(
+            code_reason(rec.codes, code),
+            Supplier {
+                code,
+                is_default: false,
+            },
+        ),
     }
 }

@@ -1,5 +1,5 @@
+use Rattle.place.proofs.Placing.{char-placed, char-unplaced, char-refused}
 use borrow.Author.Needs.{needs}
-use Rattle.place.proofs.Placing.{char-placed, char-refused}
 use Rattle.place.proofs.boxes.char_info.Statement.{statement}
 use Rattle.place.proofs.boxes.char_info.Tie as tie
 
@@ -7,9 +7,12 @@ pub char-info-spec : {M : Type 1} → statement M
 char-info-spec =
     tie.close
     (tie.spec
-    (λ c κs. search needs)  -- glyph-of-requires
-    (λ c. search needs)  -- enum-known-found
+    (λ c κs. search needs)  -- serve-requires
+    (λ c. search needs)  -- enum-known-served
     (λ c κs. search needs)  -- info-of-requires
-    (λ c. search needs)  -- enum-known-found-2
+    (λ c. search needs)  -- enum-known-info
+    (λ c. search needs)  -- enum-known-info-2
+    (λ c. search needs)  -- enum-known-served-2
     (λ c. search char-placed)  -- returns
-    (λ c. search char-refused))  -- returns-2
+    (λ c. search char-unplaced)  -- returns-2
+    (λ c. search char-refused))  -- returns-3

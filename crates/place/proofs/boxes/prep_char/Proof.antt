@@ -1,5 +1,5 @@
 use Rattle.place.specs.Info.{prepChar}
-use Rattle.place.specs.declared.Prepared.{Prepared}
+use Rattle.place.specs.declared.CharPrepared.{CharPrepared}
 use borrow.Author.Needs.{needs}
 use Rattle.tables.proofs.TestedRecord.{tested-6, tested-answers}
 use Rattle.place.proofs.boxes.prep_char.Statement.{statement}
@@ -11,7 +11,7 @@ returns c = search tested-answers
 
 returns-2 : tie.Need-returns-2
 unfolding prepChar
-returns-2 c = search (tested-6 Prepared.Refused)
+returns-2 c = search (tested-6 CharPrepared.Refused)
 
 pub prep-char-spec : {M : Type 1} → statement M
 prep-char-spec =
