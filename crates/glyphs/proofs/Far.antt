@@ -10,6 +10,7 @@ use lib.ListN.{length}
 use borrow.Author.Tests.{leb-true, leb-false}
 use Rattle.reads.proofs.Tests.{both, split}
 use Rattle.tables.specs.declared.BitmapData.{BitmapData}
+use Rattle.modes.specs.declared.Mode.{Mode}
 use Rattle.bitmaps.specs.Place.{Place, placeAt}
 use Rattle.bitmaps.specs.Limits.{okPair}
 use Rattle.bitmaps.specs.Picture.{glyphBit}
@@ -62,9 +63,9 @@ pub nothing-leaves : (s : List ℕ) (b : BitmapData) (g width : ℕ) (at : Place
 nothing-leaves s b g width at colour old = no-dots (glyphBit s b g width) at width 0 colour old (λ r c a h l m. omega arith)
 
 -- the place of a glyph within the limits is no such place
-pub near-place : (i : GlyphInfo) (start stride scale : ℕ) → start ≤ 2147483647 → stride ≤ 65535 → scale ≤ 64 → okInfo i ≡ true
+pub near-place : (mode : Mode) (i : GlyphInfo) (start stride scale : ℕ) → start ≤ 2147483647 → stride ≤ 65535 → scale ≤ 64 → okInfo mode i ≡ true
     → min 18446744073709551615 (placeOf i (placeAt start stride scale) .p) ≡ placeOf i (placeAt start stride scale) .p
-near-place i start stride scale h k l e =
+near-place mode i start stride scale h k l e =
     let (size, pads) = both (okPair (i .width) (i .height)) (okPair (i .«pad_top») (i .«pad_left»)) e in
     let (top, left) = pair-limits (i .«pad_top») (i .«pad_left») pads in
     let line = within stride 65535 scale 64 k l in

@@ -4,6 +4,7 @@ use mathlib.Core.Path.{_≡_}
 use mathlib.Core.List.{List}
 use native.Mathlib.Omega.{arith}
 use Rattle.tables.specs.declared.Record.{Record}
+use Rattle.lookup.specs.declared.Supplier.{Supplier}
 use Rattle.bitmaps.specs.Place.{Place}
 use Rattle.bitmaps.specs.Picture.{glyphBit}
 use Rattle.bitmaps.specs.Draw.{shownLeaves}
@@ -17,10 +18,10 @@ use Rattle.glyphs.specs.Char.{charOf, charLeaves}
 use Rattle.glyphs.specs.Unpack.{unpackLeaves}
 use Rattle.glyphs.specs.declared.CharDrawn.{CharDrawn}
 
-pub char-leaves : (s : List ℕ) (rec : Record) (i : GlyphInfo) (at : Place) (colour : ℕ) (drawn : Drawn) (r : CharDrawn) (old new : List ℕ) → r ≡ charOf i drawn
+pub char-leaves : (s : List ℕ) (rec : Record) (i : GlyphInfo) (by : Supplier) (at : Place) (colour : ℕ) (drawn : Drawn) (r : CharDrawn) (old new : List ℕ) → r ≡ charOf i by drawn
     → new ≡ shownLeaves s (rec .bitmaps) (i .glyph .0) (i .width) (placeOf i at) colour drawn old → new ≡ charLeaves s rec at colour r old
-char-leaves s rec i at colour (Drawn.Rows d) r old new is e = rw is e
-char-leaves s rec i at colour (Drawn.Refused d) r old new is e = rw is e
+char-leaves s rec i by at colour (Drawn.Rows d) r old new is e = rw is e
+char-leaves s rec i by at colour (Drawn.Refused d) r old new is e = rw is e
 
 -- a glyph without a bitmap stores nothing
 pub nothing-unpacked : (s : List ℕ) (rec : Record) (i : GlyphInfo) (start stride : ℕ) (old : List ℕ)

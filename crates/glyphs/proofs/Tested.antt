@@ -15,6 +15,8 @@ use Rattle.tables.proofs.Guarded.{given-passes, guarded-answers, guarded-refuse
 use Rattle.tables.specs.declared.BitmapData.{BitmapData}
 use Rattle.tables.specs.declared.Permit.{Permit}
 use Rattle.tables.specs.declared.Record.{Record}
+use Rattle.modes.specs.declared.Mode.{Mode}
+use Rattle.lookup.specs.declared.Supplier.{Supplier}
 use Rattle.bitmaps.specs.Place.{Place, placeAt}
 use Rattle.bitmaps.specs.Limits.{okPlace}
 use Rattle.bitmaps.specs.Picture.{noBitmap}
@@ -23,9 +25,9 @@ use Rattle.bitmaps.specs.Unpack.{unscaled, unpackedAt, unpackedLeaves}
 use Rattle.bitmaps.specs.declared.Drawn.{Drawn}
 use Rattle.bitmaps.specs.declared.Unpacked.{Unpacked}
 use Rattle.outcome.proofs.WithinLimits.{place-limits}
-use Rattle.place.specs.Info.{preparedIn}
+use Rattle.place.specs.Info.{prepared}
 use Rattle.place.specs.declared.GlyphInfo.{GlyphInfo}
-use Rattle.place.specs.declared.Prepared.{Prepared}
+use Rattle.place.specs.declared.CharPrepared.{CharPrepared}
 use Rattle.glyphs.specs.Glyph.{placeOf, okInfo, nothingDrawn, glyphDrawn, glyphReady, drawGlyph}
 use Rattle.glyphs.specs.Char.{charOf, charReady, drawChar}
 use Rattle.glyphs.specs.Unpack.{glyphUnpacked, unpackGlyph, unpackLeaves}
@@ -34,18 +36,18 @@ use Rattle.glyphs.proofs.Far.{capped-shown, capped-leaves, near-place}
 
 -- ---- the tests before a placed glyph, and what follows from a permit: its numbers are within their limits
 
-pub glyph-tested : (s : List ℕ) (rec : Record) (i : GlyphInfo) (at : Place) (place info : Bool) (permit : Permit)
-    → place ≡ okPlace at → info ≡ okInfo i → permit ≡ guard s rec (place && info) → permit ≡ glyphReady s rec i at
+pub glyph-tested : (s : List ℕ) (rec : Record) (mode : Mode) (i : GlyphInfo) (at : Place) (place info : Bool) (permit : Permit)
+    → place ≡ okPlace at → info ≡ okInfo mode i → permit ≡ guard s rec (place && info) → permit ≡ glyphReady s rec mode i at
 unfolding glyphReady
-glyph-tested s rec i at place info permit place-is info-is is = rw (← place-is, ← info-is) is
+glyph-tested s rec mode i at place info permit place-is info-is is = rw (← place-is, ← info-is) is
 
-module _ (s : List ℕ) (rec : Record) (i : GlyphInfo) (start stride scale : ℕ) (permit : Permit)
-    (permit-is : permit ≡ glyphReady s rec i (placeAt start stride scale)) (given : permit ≡ Permit.Given) where
-  within-limits : (okPlace (placeAt start stride scale) ≡ true) × (okInfo i ≡ true)
+module _ (s : List ℕ) (rec : Record) (mode : Mode) (i : GlyphInfo) (start stride scale : ℕ) (permit : Permit)
+    (permit-is : permit ≡ glyphReady s rec mode i (placeAt start stride scale)) (given : permit ≡ Permit.Given) where
+  within-limits : (okPlace (placeAt start stride scale) ≡ true) × (okInfo mode i ≡ true)
   unfolding glyphReady
   within-limits =
       let at = placeAt start stride scale in
-      both (okPlace at) (okInfo i) (given-passes s rec (okPlace at && okInfo i) permit permit-is given .1)
+      both (okPlace at) (okInfo mode i) (given-passes s rec (okPlace at && okInfo mode i) permit permit-is given .1)
 
   pub stride-fits : Fits w16 stride
   stride-fits = omega (arith, place-limits start stride scale (within-limits .0))
@@ -80,28 +82,28 @@ leaves-there s b i start stride scale p colour r old new p-is h is =
 -- ---- a record and a character
 
 -- only an answer that passed both tests places a glyph
-placed-within : (fits within : Bool) (q : Prepared) (i : GlyphInfo)
-    → cond fits (cond within q (Prepared.Refused (refusal 15 0))) (Prepared.Refused (refusal 6 0)) ≡ Prepared.Info i → within ≡ true
-placed-within true true q i e = refl
-placed-within true false q i e = let z : _≡_ {A = ℕ} 0 1 = cc in absurd (omega arith)
-placed-within false within q i e = let z : _≡_ {A = ℕ} 0 1 = cc in absurd (omega arith)
+placed-within : (fits within : Bool) (q : CharPrepared) (i : GlyphInfo) (by : Supplier)
+    → cond fits (cond within q (CharPrepared.Refused (refusal 15 0))) (CharPrepared.Refused (refusal 6 0)) ≡ CharPrepared.Info i by → within ≡ true
+placed-within true true q i by e = refl
+placed-within true false q i by e = let z : _≡_ {A = ℕ} 0 1 = cc in absurd (omega arith)
+placed-within false within q i by e = let z : _≡_ {A = ℕ} 0 1 = cc in absurd (omega arith)
 
-module _ (s : List ℕ) (rec : Record) (code : ℕ) (at : Place) (place : Bool) (permit : Permit) (place-is : place ≡ okPlace at)
+module _ (s : List ℕ) (rec : Record) (mode : Mode) (code : ℕ) (at : Place) (place : Bool) (permit : Permit) (place-is : place ≡ okPlace at)
     (permit-is : permit ≡ guard s rec place) where
-  pub ready-placed : (r : Prepared) → permit ≡ Permit.Given → r ≡ preparedIn s rec code → r ≡ charReady s rec code at
+  pub ready-placed : (r : CharPrepared) → permit ≡ Permit.Given → r ≡ prepared s rec mode code → r ≡ charReady s rec mode code at
   unfolding charReady
-  ready-placed r e is = rw (← place-is) (is ∙ sym (guarded-answers s rec place permit permit-is Prepared.Refused (preparedIn s rec code) e))
+  ready-placed r e is = rw (← place-is) (is ∙ sym (guarded-answers s rec place permit permit-is CharPrepared.Refused (prepared s rec mode code) e))
 
-  pub ready-refused : (r : Refusal) → permit ≡ Permit.Refused r → Prepared.Refused r ≡ charReady s rec code at
+  pub ready-refused : (r : Refusal) → permit ≡ Permit.Refused r → CharPrepared.Refused r ≡ charReady s rec mode code at
   unfolding charReady
-  ready-refused r e = rw (← place-is) (sym (guarded-refuses s rec place permit permit-is Prepared.Refused (preparedIn s rec code) r e))
+  ready-refused r e = rw (← place-is) (sym (guarded-refuses s rec place permit permit-is CharPrepared.Refused (prepared s rec mode code) r e))
 
-module _ (s : List ℕ) (rec : Record) (code start stride scale : ℕ) (ready : Prepared)
-    (ready-is : ready ≡ charReady s rec code (placeAt start stride scale)) (i : GlyphInfo) (e : ready ≡ Prepared.Info i) where
+module _ (s : List ℕ) (rec : Record) (mode : Mode) (code start stride scale : ℕ) (ready : CharPrepared)
+    (ready-is : ready ≡ charReady s rec mode code (placeAt start stride scale)) (i : GlyphInfo) (by : Supplier) (e : ready ≡ CharPrepared.Info i by) where
   char-within : okPlace (placeAt start stride scale) ≡ true
   unfolding charReady
   char-within =
-      placed-within (recordFits (length s) rec) (okPlace (placeAt start stride scale)) (preparedIn s rec code) i (sym ready-is ∙ e)
+      placed-within (recordFits (length s) rec) (okPlace (placeAt start stride scale)) (prepared s rec mode code) i by (sym ready-is ∙ e)
 
   pub char-stride-fits : Fits w16 stride
   char-stride-fits = omega (arith, place-limits start stride scale char-within)
@@ -109,61 +111,61 @@ module _ (s : List ℕ) (rec : Record) (code start stride scale : ℕ) (ready : 
   pub char-scale-fits : Fits w8 scale
   char-scale-fits = omega (arith, place-limits start stride scale char-within)
 
-module _ (s : List ℕ) (rec : Record) (code len : ℕ) (at : Place) (ready : Prepared) (ready-is : ready ≡ charReady s rec code at) where
-  pub char-none : (r : Refusal) → ready ≡ Prepared.Refused r → CharDrawn.Refused r ≡ drawChar s rec code len at
+module _ (s : List ℕ) (rec : Record) (mode : Mode) (code len : ℕ) (at : Place) (ready : CharPrepared) (ready-is : ready ≡ charReady s rec mode code at) where
+  pub char-none : (r : Refusal) → ready ≡ CharPrepared.Refused r → CharDrawn.Refused r ≡ drawChar s rec mode code len at
   unfolding drawChar
   char-none r e = rw (← ready-is, e) refl
 
-  pub char-drawn : (i : GlyphInfo) (drawn : Drawn) (r : CharDrawn) → ready ≡ Prepared.Info i
-      → drawn ≡ glyphDrawn s (rec .bitmaps) i len at → r ≡ charOf i drawn → r ≡ drawChar s rec code len at
+  pub char-drawn : (i : GlyphInfo) (by : Supplier) (drawn : Drawn) (r : CharDrawn) → ready ≡ CharPrepared.Info i by
+      → drawn ≡ glyphDrawn s (rec .bitmaps) i len at → r ≡ charOf i by drawn → r ≡ drawChar s rec mode code len at
   unfolding drawChar
-  char-drawn i drawn r e d is = is ∙ ap (charOf i) d ∙ rw (← ready-is, e) refl
+  char-drawn i by drawn r e d is = is ∙ ap (charOf i by) d ∙ rw (← ready-is, e) refl
 
 -- ---- a record and a glyph
 
-module _ (s : List ℕ) (rec : Record) (i : GlyphInfo) (len : ℕ) (at : Place) (permit : Permit) (permit-is : permit ≡ glyphReady s rec i at) where
-  pub glyph-refused : (r : Refusal) → permit ≡ Permit.Refused r → Drawn.Refused r ≡ drawGlyph s rec i len at
+module _ (s : List ℕ) (rec : Record) (mode : Mode) (i : GlyphInfo) (len : ℕ) (at : Place) (permit : Permit) (permit-is : permit ≡ glyphReady s rec mode i at) where
+  pub glyph-refused : (r : Refusal) → permit ≡ Permit.Refused r → Drawn.Refused r ≡ drawGlyph s rec mode i len at
   unfolding drawGlyph
   glyph-refused r e = rw (← permit-is, e) refl
 
-  pub glyph-drawn : (r : Drawn) → permit ≡ Permit.Given → r ≡ glyphDrawn s (rec .bitmaps) i len at → r ≡ drawGlyph s rec i len at
+  pub glyph-drawn : (r : Drawn) → permit ≡ Permit.Given → r ≡ glyphDrawn s (rec .bitmaps) i len at → r ≡ drawGlyph s rec mode i len at
   unfolding drawGlyph
   glyph-drawn r e is = is ∙ rw (← permit-is, e) refl
 
 -- ---- a record and a glyph to unpack
 
-module _ (s : List ℕ) (rec : Record) (i : GlyphInfo) (start stride : ℕ) (permit : Permit)
-    (permit-is : permit ≡ glyphReady s rec i (placeAt start stride 1)) where
+module _ (s : List ℕ) (rec : Record) (mode : Mode) (i : GlyphInfo) (start stride : ℕ) (permit : Permit)
+    (permit-is : permit ≡ glyphReady s rec mode i (placeAt start stride 1)) where
   module _ (len : ℕ) where
-    pub unpack-refused : (r : Refusal) → permit ≡ Permit.Refused r → Unpacked.Refused r ≡ unpackGlyph s rec i len start stride
+    pub unpack-refused : (r : Refusal) → permit ≡ Permit.Refused r → Unpacked.Refused r ≡ unpackGlyph s rec mode i len start stride
     unfolding unpackGlyph
     unpack-refused r e = rw (← permit-is, e) refl
 
-    unpacks : permit ≡ Permit.Given → glyphUnpacked s (rec .bitmaps) i len start stride ≡ unpackGlyph s rec i len start stride
+    unpacks : permit ≡ Permit.Given → glyphUnpacked s (rec .bitmaps) i len start stride ≡ unpackGlyph s rec mode i len start stride
     unfolding unpackGlyph
     unpacks given = rw (← permit-is, given) refl
 
   module _ (given : permit ≡ Permit.Given) where
     module _ (len : ℕ) (none : Bool) (none-is : none ≡ noBitmap (rec .bitmaps) (i .glyph .0)) where
-      pub unpack-none : none ≡ true → Unpacked.Rows 0 ≡ unpackGlyph s rec i len start stride
+      pub unpack-none : none ≡ true → Unpacked.Rows 0 ≡ unpackGlyph s rec mode i len start stride
       unfolding glyphUnpacked
       unpack-none e = rw (← none-is, e) at (unpacks len given)
 
       unpacks-there : none ≡ false
           → unpackedAt s (rec .bitmaps) (i .glyph .0) (i .width) (i .height) len (placeOf i (unscaled start stride) .p) stride
-          ≡ unpackGlyph s rec i len start stride
+          ≡ unpackGlyph s rec mode i len start stride
       unfolding glyphUnpacked
       unpacks-there e = rw (← none-is, e) at (unpacks len given)
 
     module _ (p : ℕ) (p-is : p ≡ min 18446744073709551615 (placeOf i (placeAt start stride 1) .p)) where
       there : p ≡ placeOf i (unscaled start stride) .p
       there =
-          let tests = within-limits s rec i start stride 1 permit permit-is given in
+          let tests = within-limits s rec mode i start stride 1 permit permit-is given in
           let l = place-limits start stride 1 (tests .0) in
-          p-is ∙ near-place i start stride 1 (l .0) (l .2) (omega arith) (tests .1)
+          p-is ∙ near-place mode i start stride 1 (l .0) (l .2) (omega arith) (tests .1)
 
       pub unpack-there : (len : ℕ) (none : Bool) (r : Unpacked) → none ≡ noBitmap (rec .bitmaps) (i .glyph .0) → none ≡ false
-          → r ≡ unpackedAt s (rec .bitmaps) (i .glyph .0) (i .width) (i .height) len p stride → r ≡ unpackGlyph s rec i len start stride
+          → r ≡ unpackedAt s (rec .bitmaps) (i .glyph .0) (i .width) (i .height) len p stride → r ≡ unpackGlyph s rec mode i len start stride
       unpack-there len none r none-is e is = (is ∙ rw there refl) ∙ unpacks-there len none none-is e
 
       pub unpack-leaves : (r : Unpacked) (old new : List ℕ) → new ≡ unpackedLeaves s (rec .bitmaps) (i .glyph .0) (i .width) p stride r old
