@@ -16,6 +16,7 @@ use Rattle.tables.proofs.Guarded.{passes, guarded-answers, guarded-refuses}
 use Rattle.tables.specs.declared.MetricsUnpacked.{MetricsUnpacked}
 use Rattle.tables.specs.declared.Permit.{Permit}
 use Rattle.tables.specs.declared.Record.{Record}
+use Rattle.modes.specs.declared.Mode.{Mode}
 use Rattle.bitmaps.specs.Paint.{painted}
 use Rattle.bitmaps.specs.Place.{placeAt}
 use Rattle.bitmaps.specs.Limits.{okPlace}
@@ -113,7 +114,7 @@ line-fits rec lay d fits place permit size place-is permit-is given size-is e =
     let limits = place-limits (lay .start) (lay .stride) (lay .scale) (sym place-is ∙ passes fits place (sym permit-is ∙ given) .1) in
     omega (arith, within (lay .scale) 64 (d .height) 32767 (limits .4) (sized-by (boundsOf rec) (boundsHold (boundsOf rec)) d refl (sym size-is ∙ e)))
 
-module _ (s : List ℕ) (rec : Record) (text : List ℕ) (lay : Layout) (place : Bool) (permit : Permit)
+module _ (s : List ℕ) (rec : Record) (mode : Mode) (text : List ℕ) (lay : Layout) (place : Bool) (permit : Permit)
     (place-is : place ≡ okPlace (placeAt (lay .start) (lay .stride) (lay .scale))) (permit-is : permit ≡ guard s rec place) where
   after : Ready
   after = readyText rec lay (checkedText text)
@@ -153,37 +154,37 @@ module _ (s : List ℕ) (rec : Record) (text : List ℕ) (lay : Layout) (place :
 
 -- ---- the whole call
 
-module _ (s : List ℕ) (rec : Record) (text : List ℕ) (lay : Layout) (len : ℕ) (tests : Ready) (tests-are : tests ≡ ready s rec text lay) where
-  pub string-refused : (r : Refusal) → tests ≡ Ready.Refused r → TextDrawn.Refused r ≡ drawString s rec text len lay
+module _ (s : List ℕ) (rec : Record) (mode : Mode) (text : List ℕ) (lay : Layout) (len : ℕ) (tests : Ready) (tests-are : tests ≡ ready s rec text lay) where
+  pub string-refused : (r : Refusal) → tests ≡ Ready.Refused r → TextDrawn.Refused r ≡ drawString s rec mode text len lay
   unfolding drawString
   string-refused r e = rw (← tests-are, e)
 
-  module _ (line : ℕ) (answer : TextDrawn) (e : tests ≡ Ready.Line line) (answer-is : answer ≡ textFrom s rec lay len (charsOf (decoded text)) origin 0) where
-    pub string-answered : answer ≡ drawString s rec text len lay
+  module _ (line : ℕ) (answer : TextDrawn) (e : tests ≡ Ready.Line line) (answer-is : answer ≡ textFrom s rec mode lay len (charsOf (decoded text)) origin 0) where
+    pub string-answered : answer ≡ drawString s rec mode text len lay
     unfolding drawString
     string-answered = rw (← tests-are, e) answer-is
 
-    pub string-answers : (r : TextDrawn) → answer ≡ r → r ≡ drawString s rec text len lay
+    pub string-answers : (r : TextDrawn) → answer ≡ r → r ≡ drawString s rec mode text len lay
     string-answers r h = sym h ∙ string-answered
 
 -- what the two passes leave, the first without ink and the second with it
 
-module _ (s : List ℕ) (rec : Record) (text : List ℕ) (lay : Layout) (len colour : ℕ) (old dry : List ℕ)
-    (dry-is : dry ≡ painted (inked false (inText s rec lay len (charsOf (decoded text)) origin)) colour old) where
+module _ (s : List ℕ) (rec : Record) (mode : Mode) (text : List ℕ) (lay : Layout) (len colour : ℕ) (old dry : List ℕ)
+    (dry-is : dry ≡ painted (inked false (inText s rec mode lay len (charsOf (decoded text)) origin)) colour old) where
   abbrev rule : ℕ → Bool
-  rule = inText s rec lay len (charsOf (decoded text)) origin
+  rule = inText s rec mode lay len (charsOf (decoded text)) origin
 
   pub dry-left : dry ≡ old
   dry-left = dry-is ∙ no-ink rule colour old
 
-  pub pass-left : (new : List ℕ) → new ≡ painted (inked true (inText s rec lay len (charsOf (decoded text)) origin)) colour dry → len ≡ length old
-      → new ≡ painted (inText s rec lay (length old) (charsOf (decoded text)) origin) colour old
+  pub pass-left : (new : List ℕ) → new ≡ painted (inked true (inText s rec mode lay len (charsOf (decoded text)) origin)) colour dry → len ≡ length old
+      → new ≡ painted (inText s rec mode lay (length old) (charsOf (decoded text)) origin) colour old
   pass-left new is same = rw (← same) (is ∙ all-ink rule colour dry ∙ ap (painted rule colour) dry-left)
 
-  pub inkable : (answer : TextDrawn) (rows : TextRows) → answer ≡ textFrom s rec lay len (charsOf (decoded text)) origin 0 → answer ≡ TextDrawn.Done rows
-      → len ≡ length old → Inkable true s rec lay len text (length dry)
+  pub inkable : (answer : TextDrawn) (rows : TextRows) → answer ≡ textFrom s rec mode lay len (charsOf (decoded text)) origin 0 → answer ≡ TextDrawn.Done rows
+      → len ≡ length old → Inkable true s rec mode lay len text (length dry)
   inkable answer rows answer-is e same = record { lent = record { same = λ t. same ∙ ap length (sym dry-left) }; done = λ t. (rows, sym answer-is ∙ e) }
 
 -- a pass without ink asks nothing of its buffer
-pub no-ink-asked : (s : List ℕ) (rec : Record) (lay : Layout) (len : ℕ) (text : List ℕ) (pixels : ℕ) → Inkable false s rec lay len text pixels
-no-ink-asked s rec lay len text pixels = record { lent = record { same = λ e. never e }; done = λ e. never e }
+pub no-ink-asked : (s : List ℕ) (rec : Record) (mode : Mode) (lay : Layout) (len : ℕ) (text : List ℕ) (pixels : ℕ) → Inkable false s rec mode lay len text pixels
+no-ink-asked s rec mode lay len text pixels = record { lent = record { same = λ e. never e }; done = λ e. never e }

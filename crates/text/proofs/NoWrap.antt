@@ -12,8 +12,9 @@ use Rattle.reads.specs.Num.{Octets}
 use Rattle.reads.specs.declared.GlyphIndex.{GlyphIndex}
 use Rattle.reads.proofs.Tests.{split, either}
 use Rattle.tables.specs.declared.Record.{Record}
-use Rattle.lookup.specs.Lookup.{glyphOf}
-use Rattle.lookup.specs.declared.Found.{Found}
+use Rattle.modes.specs.declared.Mode.{Mode}
+use Rattle.lookup.specs.Served.{served}
+use Rattle.lookup.specs.declared.Served.{Served}
 use Rattle.metrics.specs.Measure.{glyphMetrics, metricsOf}
 use Rattle.metrics.specs.declared.Measured.{Measured}
 use Rattle.metrics.proofs.Widths.{width-small}
@@ -49,7 +50,7 @@ Narrow (Placed.Skip pen) = Unit {0}
 Narrow (Placed.Glyph pen i) = i .width < 65536
 Narrow (Placed.Refused n) = Unit {0}
 
-module _ (s : List ℕ) (octets : Octets s) (rec : Record) where
+module _ (s : List ℕ) (octets : Octets s) (rec : Record) (mode : Mode) where
   module _ (lay : Layout) (pen : Pen) where
     info-narrow : (g : GlyphIndex) → Narrow (placeInfo rec lay pen (infoIn s rec g))
     unfolding infoOf metricsOf
@@ -59,13 +60,13 @@ module _ (s : List ℕ) (octets : Octets s) (rec : Record) where
         let Q : Prepared → Type 0 = λ x. Narrow (placeInfo rec lay pen x) in
         either P (leb (rec .metrics .count) (g .0)) tt (either Q (placeable m (boundsOf rec .ascent)) (width-small s octets (rec .metrics) (g .0)) tt)
 
-    found-narrow : (x : Found) → Narrow (placeFound s rec lay pen x)
-    found-narrow (Found.Glyph g) = info-narrow g
-    found-narrow (Found.Refused r) = tt
+    found-narrow : (x : Served) → Narrow (placeFound s rec lay pen x)
+    found-narrow (Served.Glyph g by) = info-narrow g
+    found-narrow (Served.Refused r) = tt
 
-    placed-narrow : (code : ℕ) → Narrow (placed s rec lay code pen)
+    placed-narrow : (code : ℕ) → Narrow (placed s rec mode lay code pen)
     unfolding placed
-    placed-narrow code = either Narrow (eqb code 13) tt (either Narrow (eqb code 10) tt (found-narrow (glyphOf s (rec .codes) code)))
+    placed-narrow code = either Narrow (eqb code 13) tt (either Narrow (eqb code 10) tt (found-narrow (served s (rec .codes) mode code)))
 
   -- ---- a line's end that no text reaches: 65,535 glyphs of 65,535 columns take 65,535 × 65,535 × 64 pixels at scale 64
 
@@ -100,18 +101,18 @@ module _ (s : List ℕ) (octets : Octets s) (rec : Record) where
 
     -- the same answer and the same colouring of these characters, with the pen here
     record Same (len : ℕ) (cs : List Char) (pen : Pen) : Type 0 where
-      pub answer : (dropped : ℕ) → textFrom s rec lay len cs pen dropped ≡ textFrom s rec free len cs pen dropped
-      pub ink : (k : ℕ) → inText s rec lay len cs pen k ≡ inText s rec free len cs pen k
+      pub answer : (dropped : ℕ) → textFrom s rec mode lay len cs pen dropped ≡ textFrom s rec mode free len cs pen dropped
+      pub ink : (k : ℕ) → inText s rec mode lay len cs pen k ≡ inText s rec mode free len cs pen k
 
     same-end : (len : ℕ) (pen : Pen) → Same len [] pen
     unfolding textFrom inText
     same-end len pen = record { answer = λ dropped. refl; ink = λ k. refl }
 
-    same-on : (len : ℕ) (c : Char) (cs : List Char) (pen : Pen) → placed s rec lay (c .code) pen ≡ placed s rec free (c .code) pen
-        → Same len cs (penAfter lay (placed s rec lay (c .code) pen) pen) → Same len (c ∷ cs) pen
+    same-on : (len : ℕ) (c : Char) (cs : List Char) (pen : Pen) → placed s rec mode lay (c .code) pen ≡ placed s rec mode free (c .code) pen
+        → Same len cs (penAfter lay (placed s rec mode lay (c .code) pen) pen) → Same len (c ∷ cs) pen
     unfolding textFrom inText
     same-on len c cs pen same rest =
-        let p = placed s rec lay (c .code) pen in
+        let p = placed s rec mode lay (c .code) pen in
         record {
           answer = λ dropped.
               rw (← same, ← drawn-same len p, ← pen-same p pen)
@@ -134,23 +135,23 @@ module _ (s : List ℕ) (octets : Octets s) (rec : Record) where
         info-same (Prepared.Info i) h = ap (λ (q : Pen). Placed.Glyph q i) (wrapped-same i h)
         info-same (Prepared.Refused r) h = refl
 
-        found-same : (x : Found) → placeFound s rec lay pen x ≡ placeFound s rec free pen x
-        found-same (Found.Glyph g) = info-same (infoIn s rec g) (info-narrow lay pen g)
-        found-same (Found.Refused r) = refl
+        found-same : (x : Served) → placeFound s rec lay pen x ≡ placeFound s rec free pen x
+        found-same (Served.Glyph g by) = info-same (infoIn s rec g) (info-narrow lay pen g)
+        found-same (Served.Refused r) = refl
 
-        placed-same : (code : ℕ) → placed s rec lay code pen ≡ placed s rec free code pen
+        placed-same : (code : ℕ) → placed s rec mode lay code pen ≡ placed s rec mode free code pen
         unfolding placed
-        placed-same code = rw (found-same (glyphOf s (rec .codes) code)) refl
+        placed-same code = rw (found-same (served s (rec .codes) mode code)) refl
 
         goes : (p : Placed) → Narrow p → Moved (placedPen p pen) (penAfter lay p pen)
         goes (Placed.Skip q) h = moved-skip pen (Placed.Skip q) q refl
         goes (Placed.Glyph q i) h = moved-glyph pen (Placed.Glyph q i) lay q (moved lay i q) i (advanceOf lay i) refl refl h (settled .scale-high) refl
         goes (Placed.Refused n) h = moved-refused pen (Placed.Refused n) n refl
 
-        next-in : (code : ℕ) → PenIn (k + 1) (penAfter lay (placed s rec lay code pen) pen)
+        next-in : (code : ℕ) → PenIn (k + 1) (penAfter lay (placed s rec mode lay code pen) pen)
         next-in code =
-            let p = placed s rec lay code pen in
-            moved-in s rec lay pen k here (settled-low rec lay line settled) code (penAfter lay p pen) (goes p (placed-narrow lay pen code))
+            let p = placed s rec mode lay code pen in
+            moved-in s rec mode lay pen k here (settled-low rec lay line settled) code (penAfter lay p pen) (goes p (placed-narrow lay pen code))
 
       module _ (text : List ℕ) (readable : Readable text) (len : ℕ) where
         same-from : (cs : List Char) (i : ℕ) (pen : Pen) → Left text i cs → PenIn i pen → Same len cs pen
@@ -163,7 +164,7 @@ module _ (s : List ℕ) (octets : Octets s) (rec : Record) where
                 let (on, inside) = step-within text i code next e in
                 let few : i < 65535 = omega (arith, readable .is-short) in
                 let same : rest ≡ cs = cc in
-                let q = penAfter lay (placed s rec lay (c .code) pen) pen in
+                let q = penAfter lay (placed s rec mode lay (c .code) pen) pen in
                 same-on len c cs pen (placed-same i pen few here (c .code))
                 (later next q (rw same at left-after) (pen-more (i + 1) next q (omega arith) (next-in i pen few here (c .code))))
             by Step.End e later = let z = ap length (left-end text i (c ∷ cs) left e) in absurd (omega (arith, z))
@@ -182,19 +183,19 @@ module _ (s : List ℕ) (octets : Octets s) (rec : Record) where
           same-text line (is-settled rec lay line s text r refl e) text (is-readable rec lay line s text r refl e) len
 
       abbrev walked : Layout → ℕ → TextDrawn
-      walked l len = textFrom s rec l len (charsOf (decoded text)) origin 0
+      walked l len = textFrom s rec mode l len (charsOf (decoded text)) origin 0
 
       same-answer : (len : ℕ) (x : Ready) → ready s rec text lay ≡ x → whenReady x (walked lay len) ≡ whenReady x (walked free len)
       same-answer len (Ready.Line line) e = same-ready len line e .answer 0
       same-answer len (Ready.Refused r) e = refl
 
-      far-is-none : (len : ℕ) → drawString s rec text len lay ≡ drawString s rec text len free
+      far-is-none : (len : ℕ) → drawString s rec mode text len lay ≡ drawString s rec mode text len free
       unfolding drawString
       far-is-none len = rw (← ready-same text) (same-answer len (ready s rec text lay) refl)
 
       module _ (colour : ℕ) (old : List ℕ) where
         abbrev left : Layout → TextDrawn → List ℕ
-        left l a = stringLeaves s rec text l colour a old
+        left l a = stringLeaves s rec mode text l colour a old
 
         inked-same : Same (length old) (charsOf (decoded text)) origin → (a : TextDrawn) → left lay a ≡ left free a
         inked-same same (TextDrawn.Done t) = ap (λ (rule : ℕ → Bool). painted rule colour old) (λ i k. same .ink k i)
@@ -206,7 +207,7 @@ module _ (s : List ℕ) (octets : Octets s) (rec : Record) where
             inked-same (same-ready (length old) line e) (walked lay (length old)) ∙ ap (left free) (same-answer (length old) (Ready.Line line) e)
         same-left (Ready.Refused r) e = refl
 
-        far-leaves : left lay (drawString s rec text (length old) lay) ≡ left free (drawString s rec text (length old) free)
+        far-leaves : left lay (drawString s rec mode text (length old) lay) ≡ left free (drawString s rec mode text (length old) free)
         unfolding drawString
         far-leaves = rw (← ready-same text) (same-left (ready s rec text lay) refl)
 
@@ -215,19 +216,19 @@ module _ (s : List ℕ) (octets : Octets s) (rec : Record) where
 abbrev widest : ℕ
 widest = 18446744073709551615
 
-module _ (s : List ℕ) (octets : Octets s) (rec : Record) (text : List ℕ) (lay : Layout) where
+module _ (s : List ℕ) (octets : Octets s) (rec : Record) (mode : Mode) (text : List ℕ) (lay : Layout) where
   -- the answer with this wrap, and the pixels left
   abbrev drawn : Wrap → ℕ → TextDrawn
-  drawn w len = drawString s rec text len (wrapping lay w)
+  drawn w len = drawString s rec mode text len (wrapping lay w)
 
   abbrev leaves : Wrap → ℕ → List ℕ → List ℕ
-  leaves w colour old = stringLeaves s rec text (wrapping lay w) colour (drawn w (length old)) old
+  leaves w colour old = stringLeaves s rec mode text (wrapping lay w) colour (drawn w (length old)) old
 
   pub widest-is-none : (len : ℕ) → drawn (Wrap.At widest) len ≡ drawn Wrap.Never len
-  widest-is-none len = far-is-none s octets rec (wrapping lay (Wrap.At widest)) widest refl (omega arith) text len
+  widest-is-none len = far-is-none s octets rec mode (wrapping lay (Wrap.At widest)) widest refl (omega arith) text len
 
   pub widest-leaves : (colour : ℕ) (old : List ℕ) → leaves (Wrap.At widest) colour old ≡ leaves Wrap.Never colour old
-  widest-leaves colour old = far-leaves s octets rec (wrapping lay (Wrap.At widest)) widest refl (omega arith) text colour old
+  widest-leaves colour old = far-leaves s octets rec mode (wrapping lay (Wrap.At widest)) widest refl (omega arith) text colour old
 
   -- so that any number taken for a wrap is drawn as a wrap there
   pub wrap-of-drawn : (n len : ℕ) → drawn (wrapOf n) len ≡ drawn (Wrap.At n) len

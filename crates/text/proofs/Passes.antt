@@ -8,6 +8,7 @@ use native.Mathlib.Omega.{arith}
 use Rattle.reads.specs.Said.{refusal}
 use Rattle.reads.specs.declared.Refusal.{Refusal}
 use Rattle.tables.specs.declared.Record.{Record}
+use Rattle.modes.specs.declared.Mode.{Mode}
 use Rattle.bitmaps.specs.Paint.{painted}
 use Rattle.bitmaps.specs.declared.Drawn.{Drawn}
 use Rattle.bitmaps.specs.declared.Rows.{Rows}
@@ -38,40 +39,40 @@ pub all-ink : (rule : ℕ → Bool) (colour : ℕ) (old : List ℕ) → painted 
 unfolding inked
 all-ink rule colour old = refl
 
-module _ (s : List ℕ) (rec : Record) (lay : Layout) (len : ℕ) (cs : List Char) (pen : Pen) where
+module _ (s : List ℕ) (rec : Record) (mode : Mode) (lay : Layout) (len : ℕ) (cs : List Char) (pen : Pen) where
   -- no character is left
   pub answer-end : (dropped : ℕ) → cs ≡ []
-      → textFrom s rec lay len cs pen dropped ≡ TextDrawn.Done (record { height = pen .y + lineHeight rec (lay .scale); dropped = dropped })
+      → textFrom s rec mode lay len cs pen dropped ≡ TextDrawn.Done (record { height = pen .y + lineHeight rec (lay .scale); dropped = dropped })
   unfolding textFrom
   answer-end dropped e = rw e refl
 
-  pub ink-end : (ink : Bool) (colour : ℕ) (old : List ℕ) → cs ≡ [] → painted (inked ink (inText s rec lay len cs pen)) colour old ≡ old
+  pub ink-end : (ink : Bool) (colour : ℕ) (old : List ℕ) → cs ≡ [] → painted (inked ink (inText s rec mode lay len cs pen)) colour old ≡ old
   unfolding inked inText
   ink-end ink colour old e = rw e (painted-none (λ k. ink && false) colour old (λ i h. and-none ink false refl))
 
   -- a character was placed so
-  module _ (i code : ℕ) (rest : List Char) (e : cs ≡ record { byte = i; code = code } ∷ rest) (p : Placed) (is : p ≡ placed s rec lay code pen) where
-    turn : (dropped : ℕ) → textFrom s rec lay len cs pen dropped
-        ≡ afterChar (placedDrawn s rec lay len p) i (λ more. textFrom s rec lay len rest (penAfter lay p pen) (dropped + more))
+  module _ (i code : ℕ) (rest : List Char) (e : cs ≡ record { byte = i; code = code } ∷ rest) (p : Placed) (is : p ≡ placed s rec mode lay code pen) where
+    turn : (dropped : ℕ) → textFrom s rec mode lay len cs pen dropped
+        ≡ afterChar (placedDrawn s rec lay len p) i (λ more. textFrom s rec mode lay len rest (penAfter lay p pen) (dropped + more))
     unfolding textFrom
     turn dropped = rw (e, is) refl
 
     pub answer-on : (dropped : ℕ) (r : Rows) → placedDrawn s rec lay len p ≡ Drawn.Rows r
-        → textFrom s rec lay len cs pen dropped ≡ textFrom s rec lay len rest (penAfter lay p pen) (dropped + r .dropped)
+        → textFrom s rec mode lay len cs pen dropped ≡ textFrom s rec mode lay len rest (penAfter lay p pen) (dropped + r .dropped)
     answer-on dropped r d =
-        turn dropped ∙ ap (λ (x : Drawn). afterChar x i (λ more. textFrom s rec lay len rest (penAfter lay p pen) (dropped + more))) d
+        turn dropped ∙ ap (λ (x : Drawn). afterChar x i (λ more. textFrom s rec mode lay len rest (penAfter lay p pen) (dropped + more))) d
 
     pub answer-stop : (dropped : ℕ) (r : Refusal) → placedDrawn s rec lay len p ≡ Drawn.Refused r
-        → textFrom s rec lay len cs pen dropped ≡ TextDrawn.Refused (refusal (r .number) i)
+        → textFrom s rec mode lay len cs pen dropped ≡ TextDrawn.Refused (refusal (r .number) i)
     answer-stop dropped r d =
-        turn dropped ∙ ap (λ (x : Drawn). afterChar x i (λ more. textFrom s rec lay len rest (penAfter lay p pen) (dropped + more))) d
+        turn dropped ∙ ap (λ (x : Drawn). afterChar x i (λ more. textFrom s rec mode lay len rest (penAfter lay p pen) (dropped + more))) d
 
-    pub ink-on : (ink : Bool) (colour : ℕ) (old : List ℕ) → painted (inked ink (inText s rec lay len cs pen)) colour old
-        ≡ painted (inked ink (inText s rec lay len rest (penAfter lay p pen))) colour (painted (inked ink (inPlaced s rec lay len p)) colour old)
+    pub ink-on : (ink : Bool) (colour : ℕ) (old : List ℕ) → painted (inked ink (inText s rec mode lay len cs pen)) colour old
+        ≡ painted (inked ink (inText s rec mode lay len rest (penAfter lay p pen))) colour (painted (inked ink (inPlaced s rec lay len p)) colour old)
     unfolding inked inText
     ink-on true colour old =
         rw (e, is)
-        (painted-or (inPlaced s rec lay len (placed s rec lay code pen)) (inText s rec lay len rest (penAfter lay (placed s rec lay code pen) pen)) colour old)
+        (painted-or (inPlaced s rec lay len (placed s rec mode lay code pen)) (inText s rec mode lay len rest (penAfter lay (placed s rec mode lay code pen) pen)) colour old)
     ink-on false colour old =
-        no-ink (inText s rec lay len cs pen) colour old
-        ∙ sym (no-ink (inText s rec lay len rest (penAfter lay p pen)) colour (painted (inked false (inPlaced s rec lay len p)) colour old) ∙ no-ink (inPlaced s rec lay len p) colour old)
+        no-ink (inText s rec mode lay len cs pen) colour old
+        ∙ sym (no-ink (inText s rec mode lay len rest (penAfter lay p pen)) colour (painted (inked false (inPlaced s rec lay len p)) colour old) ∙ no-ink (inPlaced s rec lay len p) colour old)

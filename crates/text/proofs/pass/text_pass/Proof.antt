@@ -22,10 +22,10 @@ use Rattle.text.proofs.pass.text_pass.Statement.{statement}
 use Rattle.text.proofs.pass.text_pass.Tie as tie
 
 abbrev Inv-loop : tie.InvT-loop
-Inv-loop s rec lay line len buf₀ text ink colour i₀ pen₀ dropped₀ buf i pen dropped = Walking s rec lay len text ink colour buf₀ i pen dropped buf
+Inv-loop s rec mode lay line len buf₀ text ink colour i₀ pen₀ dropped₀ buf i pen dropped = Walking s rec mode lay len text ink colour buf₀ i pen dropped buf
 
 abbrev μ-loop : tie.MeasureT-loop
-μ-loop s rec lay line len buf₀ text ink colour i₀ pen₀ dropped₀ buf i pen dropped = length text - i
+μ-loop s rec mode lay line len buf₀ text ink colour i₀ pen₀ dropped₀ buf i pen dropped = length text - i
 
 pub text-pass-spec : {M : Type 1} → statement M
 text-pass-spec =
