@@ -15,12 +15,15 @@ use Rattle.reads.specs.declared.Refusal.{Refusal}
 use Rattle.reads.proofs.Tests.{split}
 use Rattle.tables.specs.Fits.{guard}
 use Rattle.tables.specs.declared.BitmapData.{BitmapData}
+use Rattle.tables.specs.declared.EncodingData.{EncodingData}
 use Rattle.tables.specs.declared.MetricsUnpacked.{MetricsUnpacked}
 use Rattle.tables.specs.declared.Permit.{Permit}
 use Rattle.tables.specs.declared.Record.{Record}
 use Rattle.tables.proofs.Guarded.{given-passes, guarded-answers, guarded-refuses}
-use Rattle.lookup.specs.Lookup.{glyphOf}
-use Rattle.lookup.specs.declared.Found.{Found}
+use Rattle.modes.specs.declared.Mode.{Mode}
+use Rattle.lookup.specs.Served.{itself, served}
+use Rattle.lookup.specs.declared.Served.{Served}
+use Rattle.lookup.specs.declared.Supplier.{Supplier}
 use Rattle.metrics.specs.Measure.{glyphMetrics, metricsOf}
 use Rattle.bitmaps.specs.Place.{Place, placeAt}
 use Rattle.bitmaps.specs.Limits.{okPlace}
@@ -36,37 +39,45 @@ use Rattle.place.specs.declared.Prepared.{Prepared}
 use Rattle.glyphs.specs.Glyph.{placeOf}
 use Rattle.glyphs.proofs.Far.{capped}
 use Rattle.why.specs.Codes.{firstOutside, secondOutside}
-use Rattle.why.specs.Reasons.{someBit, drawnReason, rowsReason, placedReason, glyphReason, reasonOf}
+use Rattle.why.specs.Reasons.{someBit, drawnReason, rowsReason, placedReason, glyphReason, codeReason, reasonOf}
 use Rattle.why.specs.Why.{reasonNumber, whyOf}
 use Rattle.why.specs.declared.Reason.{Reason}
 use Rattle.why.specs.declared.Told.{Told}
 
--- ---- a code
+-- ---- a code without a glyph to show it
 
-module _ (s : List ℕ) (rec : Record) (code len : ℕ) (at : Place) where
-  pub above-codes : 65535 < code → Reason.AboveCodes ≡ reasonOf s rec code len at
-  unfolding reasonOf
+module _ (c : EncodingData) (code : ℕ) where
+  pub above-codes : 65535 < code → Reason.AboveCodes ≡ codeReason c code
+  unfolding codeReason
   above-codes h = rw (lt-ltb _ _ h)
 
-  module _ (near : code ≤ 65535) (first : Bool) (first-is : first ≡ firstOutside (rec .codes) code) where
-    pub first-byte : first ≡ true → Reason.FirstByte ≡ reasonOf s rec code len at
-    unfolding reasonOf
+  module _ (near : code ≤ 65535) (first : Bool) (first-is : first ≡ firstOutside c code) where
+    pub first-byte : first ≡ true → Reason.FirstByte ≡ codeReason c code
+    unfolding codeReason
     first-byte e = rw (le-ltb _ _ near, ← first-is, e)
 
-    module _ (first-in : first ≡ false) (second : Bool) (second-is : second ≡ secondOutside (rec .codes) code) where
-      pub second-byte : second ≡ true → Reason.SecondByte ≡ reasonOf s rec code len at
-      unfolding reasonOf
+    module _ (first-in : first ≡ false) (second : Bool) (second-is : second ≡ secondOutside c code) where
+      pub second-byte : second ≡ true → Reason.SecondByte ≡ codeReason c code
+      unfolding codeReason
       second-byte e = rw (le-ltb _ _ near, ← first-is, first-in, ← second-is, e)
 
-      module _ (second-in : second ≡ false) (found : Found) (found-is : found ≡ glyphOf s (rec .codes) code) where
-        pub empty-entry : (r : Refusal) → found ≡ Found.Refused r → Reason.EmptyEntry ≡ reasonOf s rec code len at
-        unfolding reasonOf
-        empty-entry r e = rw (le-ltb _ _ near, ← first-is, first-in, ← second-is, second-in, ← found-is, e)
+      pub empty-entry : second ≡ false → Reason.EmptyEntry ≡ codeReason c code
+      unfolding codeReason
+      empty-entry e = rw (le-ltb _ _ near, ← first-is, first-in, ← second-is, e)
 
-        pub some-glyph : (g : GlyphIndex) (reason : Reason) → found ≡ Found.Glyph g → reason ≡ glyphReason s rec g len at
-            → reason ≡ reasonOf s rec code len at
-        unfolding reasonOf
-        some-glyph g reason e is = rw (le-ltb _ _ near, ← first-is, first-in, ← second-is, second-in, ← found-is, e) is
+-- ---- a character
+
+module _ (s : List ℕ) (rec : Record) (mode : Mode) (code len : ℕ) (at : Place) (found : Served) (found-is : found ≡ served s (rec .codes) mode code)
+    (reason : Reason) where
+  pub none-served : (r : Refusal) → found ≡ Served.Refused r → reason ≡ codeReason (rec .codes) code
+      → Told.Because reason (itself code) ≡ reasonOf s rec mode code len at
+  unfolding reasonOf
+  none-served r e is = rw (← found-is, e) (ap (λ (x : Reason). Told.Because x (itself code)) is)
+
+  pub some-served : (g : GlyphIndex) (by : Supplier) → found ≡ Served.Glyph g by → reason ≡ glyphReason s rec g len at
+      → Told.Because reason by ≡ reasonOf s rec mode code len at
+  unfolding reasonOf
+  some-served g by e is = rw (← found-is, e) (ap (λ (x : Reason). Told.Because x by) is)
 
 -- ---- a glyph
 
@@ -190,17 +201,15 @@ of-reason reason case e = ap reasonNumber (sym e)
 
 -- ---- the call
 
-module _ (s : List ℕ) (rec : Record) (code len : ℕ) (at : Place) (place : Bool) (permit : Permit) (place-is : place ≡ okPlace at)
+module _ (s : List ℕ) (rec : Record) (mode : Mode) (code len : ℕ) (at : Place) (place : Bool) (permit : Permit) (place-is : place ≡ okPlace at)
     (permit-is : permit ≡ guard s rec place) where
-  pub told-reason : (reason : Reason) → permit ≡ Permit.Given → reason ≡ reasonOf s rec code len at → Told.Because reason ≡ whyOf s rec code len at
+  pub told-reason : (told : Told) → permit ≡ Permit.Given → told ≡ reasonOf s rec mode code len at → told ≡ whyOf s rec mode code len at
   unfolding whyOf
-  told-reason reason e is =
-      rw (← place-is) (ap Told.Because is ∙ sym (guarded-answers s rec place permit permit-is Told.Refused (Told.Because (reasonOf s rec code len at)) e))
+  told-reason told e is = rw (← place-is) (is ∙ sym (guarded-answers s rec place permit permit-is Told.Refused (reasonOf s rec mode code len at) e))
 
-  pub told-refused : (r : Refusal) → permit ≡ Permit.Refused r → Told.Refused r ≡ whyOf s rec code len at
+  pub told-refused : (r : Refusal) → permit ≡ Permit.Refused r → Told.Refused r ≡ whyOf s rec mode code len at
   unfolding whyOf
-  told-refused r e =
-      rw (← place-is) (sym (guarded-refuses s rec place permit permit-is Told.Refused (Told.Because (reasonOf s rec code len at)) r e))
+  told-refused r e = rw (← place-is) (sym (guarded-refuses s rec place permit permit-is Told.Refused (reasonOf s rec mode code len at) r e))
 
 -- a permit is given where the place is within its limits
 module _ (s : List ℕ) (rec : Record) (start stride scale : ℕ) (place : Bool) (permit : Permit) (place-is : place ≡ okPlace (placeAt start stride scale))
