@@ -4,6 +4,7 @@
 use Prim.Native.Nat.{ℕ}
 use mathlib.Core.List.{List}
 use Rattle.tables.specs.declared.Record.{Record}
+use Rattle.modes.specs.declared.Mode.{Mode}
 use Rattle.load.specs.Load.{loaded, loadedStrictly}
 use Rattle.load.specs.declared.Loaded.{Loaded}
 use Rattle.vet.specs.Vet.{vetted}
@@ -41,15 +42,15 @@ abbrev pub leftWith : Loaded → (Record → List ℕ) → List ℕ → List ℕ
 leftWith (Loaded.Font rec) leaves old = leaves rec
 leftWith (Loaded.Refused r) leaves old = old
 
-unfoldable pub showChar : List ℕ → Reading → ℕ → ℕ → Place → CharDrawn
-showChar s reading code len at = charWith (recordOf s reading) (λ rec. drawChar s rec code len at)
+unfoldable pub showChar : List ℕ → Reading → Mode → ℕ → ℕ → Place → CharDrawn
+showChar s reading mode code len at = charWith (recordOf s reading) (λ rec. drawChar s rec mode code len at)
 
 unfoldable pub showCharLeaves : List ℕ → Reading → Place → ℕ → CharDrawn → List ℕ → List ℕ
 showCharLeaves s reading at colour r old = leftWith (recordOf s reading) (λ rec. charLeaves s rec at colour r old) old
 
-unfoldable pub showString : List ℕ → Reading → List ℕ → ℕ → Layout → TextDrawn
-showString s reading text len lay = stringWith (recordOf s reading) (λ rec. drawString s rec text len lay)
+unfoldable pub showString : List ℕ → Reading → Mode → List ℕ → ℕ → Layout → TextDrawn
+showString s reading mode text len lay = stringWith (recordOf s reading) (λ rec. drawString s rec mode text len lay)
 
-unfoldable pub showStringLeaves : List ℕ → Reading → List ℕ → Layout → ℕ → TextDrawn → List ℕ → List ℕ
-showStringLeaves s reading text lay colour r old =
-    leftWith (recordOf s reading) (λ rec. stringLeaves s rec text lay colour r old) old
+unfoldable pub showStringLeaves : List ℕ → Reading → Mode → List ℕ → Layout → ℕ → TextDrawn → List ℕ → List ℕ
+showStringLeaves s reading mode text lay colour r old =
+    leftWith (recordOf s reading) (λ rec. stringLeaves s rec mode text lay colour r old) old

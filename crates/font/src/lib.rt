@@ -4,9 +4,10 @@
 mod shown;
 
 use glyphs::CharDrawn;
-use lookup::Found;
+use lookup::Served;
+use modes::Mode;
 use names::Named;
-use place::Prepared;
+use place::CharPrepared;
 use place::Sized;
 use reads::CharCode;
 use reads::GlyphIndex;
@@ -21,7 +22,7 @@ use text::Wrap;
 ghost use mathlib.Core.Path.{_≡_};
 ghost use lib.ListN.{length};
 ghost use Rattle.bitmaps.specs.Place.{placeAt};
-ghost use Rattle.lookup.specs.Lookup.{getGlyph};
+ghost use Rattle.lookup.specs.Served.{getGlyph};
 ghost use Rattle.names.specs.Names.{getName, nameBytes, nameAt};
 ghost use Rattle.names.specs.Strings.{movedBy};
 ghost use Rattle.place.specs.Bounds.{dimensions};
@@ -52,11 +53,11 @@ pub fn open<'a>(bytes: &'a [u8], rec: Record) -> Font<'a>
 }
 
 impl<'a> Font<'a> {
-    // The glyph of a character code: `lookup::get_glyph`. Refused 6, 9.
-    pub fn get_glyph(self, code: CharCode) -> Found
-        ensures { λ r. ⌜ r ≡ getGlyph (now (self .entry .bytes)) (self .entry .rec) (code .0) ⌝ }
+    // The glyph that shows a character code, and the code that supplied it: `lookup::get_glyph`. Refused 6, 9.
+    pub fn get_glyph(self, mode: Mode, code: CharCode) -> Served
+        ensures { λ r. ⌜ r ≡ getGlyph (now (self .entry .bytes)) (self .entry .rec) mode (code .0) ⌝ }
     {
-        lookup::get_glyph(self.bytes, self.rec, code)
+        lookup::get_glyph(self.bytes, self.rec, mode, code)
     }
 
     // Where a glyph's name stands in the font's bytes: `names::get_name`. Refused 6, 17, 18.
@@ -83,16 +84,17 @@ impl<'a> Font<'a> {
     }
 
     // Where and how large a character's glyph is drawn: `place::prep_char`. Refused 6, 9, 10, 11.
-    pub fn prep_char(self, code: CharCode) -> Prepared
-        ensures { λ r. ⌜ r ≡ prepChar (now (self .entry .bytes)) (self .entry .rec) (code .0) ⌝ }
+    pub fn prep_char(self, mode: Mode, code: CharCode) -> CharPrepared
+        ensures { λ r. ⌜ r ≡ prepChar (now (self .entry .bytes)) (self .entry .rec) mode (code .0) ⌝ }
     {
-        place::prep_char(self.bytes, self.rec, code)
+        place::prep_char(self.bytes, self.rec, mode, code)
     }
 
     // Draws a character's glyph: `glyphs::draw_char`. Refused 6, 15, 9, 10, 11, 13, 14, 16, and then no
     // pixel is coloured.
     pub fn draw_char(
         self,
+        mode: Mode,
         code: CharCode,
         buf: &mut [u32],
         start: usize,
@@ -100,12 +102,13 @@ impl<'a> Font<'a> {
         scale: usize,
         colour: u32,
     ) -> CharDrawn
-        ensures { λ r. ⌜ r ≡ drawChar (now (self .entry .bytes)) (self .entry .rec) (code .0) (length (now (buf .entry))) (placeAt start stride scale) ⌝ }
+        ensures { λ r. ⌜ r ≡ drawChar (now (self .entry .bytes)) (self .entry .rec) mode (code .0) (length (now (buf .entry))) (placeAt start stride scale) ⌝ }
         ensures { λ r. ⌜ now (buf .exit) ≡ charLeaves (now (self .entry .bytes)) (self .entry .rec) (placeAt start stride scale) colour r (now (buf .entry)) ⌝ }
     {
         glyphs::draw_char(
             self.bytes,
             self.rec,
+            mode,
             code,
             buf,
             start,
@@ -119,6 +122,7 @@ impl<'a> Font<'a> {
     // refused, at the byte where it starts; no pixel is coloured then.
     pub fn draw_string(
         self,
+        mode: Mode,
         text: &[u8],
         buf: &mut [u32],
         start: usize,
@@ -127,12 +131,13 @@ impl<'a> Font<'a> {
         scale: usize,
         colour: u32,
     ) -> TextDrawn
-        ensures { λ r. ⌜ r ≡ drawString (now (self .entry .bytes)) (self .entry .rec) (now (text .entry)) (length (now (buf .entry))) (record { start = start; wrap = wrap; stride = stride; scale = scale }) ⌝ }
-        ensures { λ r. ⌜ now (buf .exit) ≡ stringLeaves (now (self .entry .bytes)) (self .entry .rec) (now (text .entry)) (record { start = start; wrap = wrap; stride = stride; scale = scale }) colour r (now (buf .entry)) ⌝ }
+        ensures { λ r. ⌜ r ≡ drawString (now (self .entry .bytes)) (self .entry .rec) mode (now (text .entry)) (length (now (buf .entry))) (record { start = start; wrap = wrap; stride = stride; scale = scale }) ⌝ }
+        ensures { λ r. ⌜ now (buf .exit) ≡ stringLeaves (now (self .entry .bytes)) (self .entry .rec) mode (now (text .entry)) (record { start = start; wrap = wrap; stride = stride; scale = scale }) colour r (now (buf .entry)) ⌝ }
     {
         text::draw_string(
             self.bytes,
             self.rec,
+            mode,
             text,
             buf,
             start,

@@ -5,6 +5,7 @@ use crate::open;
 use glyphs::CharDrawn;
 use load::Loaded;
 use load::load_in;
+use modes::Mode;
 use reads::CharCode;
 use tables::Record;
 use text::TextDrawn;
@@ -40,6 +41,7 @@ pub fn record_of(bytes: &[u8], reading: Reading) -> Loaded
 pub fn char_through(
     bytes: &[u8],
     rec: Record,
+    mode: Mode,
     code: CharCode,
     buf: &mut [u32],
     start: usize,
@@ -47,16 +49,17 @@ pub fn char_through(
     scale: usize,
     colour: u32,
 ) -> CharDrawn
-    ensures { λ r. ⌜ r ≡ drawChar (now (bytes .entry)) rec (code .0) (length (now (buf .entry))) (placeAt start stride scale) ⌝ }
+    ensures { λ r. ⌜ r ≡ drawChar (now (bytes .entry)) rec mode (code .0) (length (now (buf .entry))) (placeAt start stride scale) ⌝ }
     ensures { λ r. ⌜ now (buf .exit) ≡ charLeaves (now (bytes .entry)) rec (placeAt start stride scale) colour r (now (buf .entry)) ⌝ }
 {
-    open(bytes, rec).draw_char(code, buf, start, stride, scale, colour)
+    open(bytes, rec).draw_char(mode, code, buf, start, stride, scale, colour)
 }
 
 // `Font::draw_string` of the view of these bytes with this record.
 pub fn string_through(
     bytes: &[u8],
     rec: Record,
+    mode: Mode,
     text: &[u8],
     buf: &mut [u32],
     start: usize,
@@ -65,10 +68,10 @@ pub fn string_through(
     scale: usize,
     colour: u32,
 ) -> TextDrawn
-    ensures { λ r. ⌜ r ≡ drawString (now (bytes .entry)) rec (now (text .entry)) (length (now (buf .entry))) (record { start = start; wrap = wrap; stride = stride; scale = scale }) ⌝ }
-    ensures { λ r. ⌜ now (buf .exit) ≡ stringLeaves (now (bytes .entry)) rec (now (text .entry)) (record { start = start; wrap = wrap; stride = stride; scale = scale }) colour r (now (buf .entry)) ⌝ }
+    ensures { λ r. ⌜ r ≡ drawString (now (bytes .entry)) rec mode (now (text .entry)) (length (now (buf .entry))) (record { start = start; wrap = wrap; stride = stride; scale = scale }) ⌝ }
+    ensures { λ r. ⌜ now (buf .exit) ≡ stringLeaves (now (bytes .entry)) rec mode (now (text .entry)) (record { start = start; wrap = wrap; stride = stride; scale = scale }) colour r (now (buf .entry)) ⌝ }
 {
-    open(bytes, rec).draw_string(text, buf, start, wrap, stride, scale, colour)
+    open(bytes, rec).draw_string(mode, text, buf, start, wrap, stride, scale, colour)
 }
 
 // Draws a character with the font that these bytes are. Refused as `record_of` refuses the bytes, with the
@@ -77,6 +80,7 @@ pub fn string_through(
 pub fn show_char(
     bytes: &[u8],
     reading: Reading,
+    mode: Mode,
     code: CharCode,
     buf: &mut [u32],
     start: usize,
@@ -84,13 +88,23 @@ pub fn show_char(
     scale: usize,
     colour: u32,
 ) -> CharDrawn
-    ensures { λ r. ⌜ r ≡ showChar (now (bytes .entry)) reading (code .0) (length (now (buf .entry))) (placeAt start stride scale) ⌝ }
+    ensures { λ r. ⌜ r ≡ showChar (now (bytes .entry)) reading mode (code .0) (length (now (buf .entry))) (placeAt start stride scale) ⌝ }
     ensures { λ r. ⌜ now (buf .exit) ≡ showCharLeaves (now (bytes .entry)) reading (placeAt start stride scale) colour r (now (buf .entry)) ⌝ }
 {
     let loaded = record_of(bytes, reading);
     match loaded {
         Loaded::Font(rec) => {
-            char_through(bytes, rec, code, &mut *buf, start, stride, scale, colour)
+            char_through(
+                bytes,
+                rec,
+                mode,
+                code,
+                &mut *buf,
+                start,
+                stride,
+                scale,
+                colour,
+            )
         }
         Loaded::Refused(r) => CharDrawn::Refused(r),
     }
@@ -102,6 +116,7 @@ pub fn show_char(
 pub fn show_string(
     bytes: &[u8],
     reading: Reading,
+    mode: Mode,
     text: &[u8],
     buf: &mut [u32],
     start: usize,
@@ -110,8 +125,8 @@ pub fn show_string(
     scale: usize,
     colour: u32,
 ) -> TextDrawn
-    ensures { λ r. ⌜ r ≡ showString (now (bytes .entry)) reading (now (text .entry)) (length (now (buf .entry))) (record { start = start; wrap = wrap; stride = stride; scale = scale }) ⌝ }
-    ensures { λ r. ⌜ now (buf .exit) ≡ showStringLeaves (now (bytes .entry)) reading (now (text .entry)) (record { start = start; wrap = wrap; stride = stride; scale = scale }) colour r (now (buf .entry)) ⌝ }
+    ensures { λ r. ⌜ r ≡ showString (now (bytes .entry)) reading mode (now (text .entry)) (length (now (buf .entry))) (record { start = start; wrap = wrap; stride = stride; scale = scale }) ⌝ }
+    ensures { λ r. ⌜ now (buf .exit) ≡ showStringLeaves (now (bytes .entry)) reading mode (now (text .entry)) (record { start = start; wrap = wrap; stride = stride; scale = scale }) colour r (now (buf .entry)) ⌝ }
 {
     let loaded = record_of(bytes, reading);
     match loaded {
@@ -119,6 +134,7 @@ pub fn show_string(
             string_through(
                 bytes,
                 rec,
+                mode,
                 text,
                 &mut *buf,
                 start,
