@@ -10,7 +10,7 @@ use Rattle.tables.specs.Fits.{recordFits, ladder, guarded}
 use Rattle.tables.specs.declared.Permit.{Permit}
 use Rattle.tables.specs.declared.Record.{Record}
 use Rattle.tables.proofs.Guarded.{is-guard, guarded-answers, guarded-refuses}
-use Rattle.thalluskin.specs.Modes.{isKnown}
+use Rattle.modes.specs.Modes.{isKnown}
 
 module _ {A B : Type 0} (answer : A → B) where
   pub called : (found is : A) (out : B) → out ≡ answer found → found ≡ is → out ≡ answer is

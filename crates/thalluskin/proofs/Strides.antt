@@ -1,7 +1,8 @@
 -- A page's line length in a known mode and in an unknown one, from what a test of the mode found.
 use mathlib.Core.Path.{_≡_, refl}
 use mathlib.Core.Bool.{Bool, true, false}
-use Rattle.thalluskin.specs.Modes.{isKnown, strideOf}
+use Rattle.modes.specs.Modes.{isKnown}
+use Rattle.thalluskin.specs.Pages.{strideOf}
 use Rattle.thalluskin.specs.declared.PageNumbers.{PageNumbers}
 
 module _ (page : PageNumbers) (is-known : Bool) (known-is : is-known ≡ isKnown (page .mode)) where

@@ -1,5 +1,5 @@
 pub mod Version
-pub mod Modes
+pub mod Pages
 pub mod Reading
 pub mod Placing
 pub mod Drawing

@@ -1,7 +1,8 @@
 -- What the exported functions of placing answer.
+use Rattle.lookup.specs.Served.{itself}
 use Rattle.place.specs.declared.GlyphInfo.{GlyphInfo}
 use Rattle.place.specs.declared.Sized.{Sized}
-use Rattle.place.specs.declared.Prepared.{Prepared}
+use Rattle.place.specs.declared.CharPrepared.{CharPrepared}
 use Rattle.thalluskin.specs.declared.ExtentAnswer.{ExtentAnswer}
 use Rattle.thalluskin.specs.declared.InfoAnswer.{InfoAnswer}
 
@@ -12,6 +13,6 @@ extentAnswer (Sized.Refused r) = record { refusal = r .number; place = r .place;
 abbrev pub noInfo : GlyphInfo
 noInfo = record { glyph = record { 0 = 0 }; width = 0; height = 0; «pad_top» = 0; «pad_left» = 0 }
 
-abbrev pub infoAnswer : Prepared → InfoAnswer
-infoAnswer (Prepared.Info i) = record { refusal = 0; place = 0; info = i }
-infoAnswer (Prepared.Refused r) = record { refusal = r .number; place = r .place; info = noInfo }
+abbrev pub infoAnswer : CharPrepared → InfoAnswer
+infoAnswer (CharPrepared.Info i by) = record { refusal = 0; place = 0; info = i; by = by }
+infoAnswer (CharPrepared.Refused r) = record { refusal = r .number; place = r .place; info = noInfo; by = itself 0 }

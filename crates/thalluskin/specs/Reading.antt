@@ -3,7 +3,8 @@
 use mathlib.Core.Bool.{true, false}
 use Rattle.load.specs.Gather.{noMetrics, blank}
 use Rattle.load.specs.declared.Loaded.{Loaded}
-use Rattle.lookup.specs.declared.Found.{Found}
+use Rattle.lookup.specs.Served.{itself}
+use Rattle.lookup.specs.declared.Served.{Served}
 use Rattle.names.specs.declared.Span.{Span}
 use Rattle.names.specs.declared.Named.{Named}
 use Rattle.props.specs.declared.Property.{Property}
@@ -40,9 +41,9 @@ propertyAnswer (PropFound.Property p) = propAnswer p
 propertyAnswer (PropFound.Refused r) =
     record { refusal = r .number; place = r .place; name = noSpan; «is_string» = false; number = 0; string = noSpan }
 
-abbrev pub glyphAnswer : Found → GlyphAnswer
-glyphAnswer (Found.Glyph g) = record { refusal = 0; place = 0; glyph = g }
-glyphAnswer (Found.Refused r) = record { refusal = r .number; place = r .place; glyph = record { 0 = 0 } }
+abbrev pub glyphAnswer : Served → GlyphAnswer
+glyphAnswer (Served.Glyph g by) = record { refusal = 0; place = 0; glyph = g; by = by }
+glyphAnswer (Served.Refused r) = record { refusal = r .number; place = r .place; glyph = record { 0 = 0 }; by = itself 0 }
 
 abbrev pub nameAnswer : Named → NameAnswer
 nameAnswer (Named.Name p) = record { refusal = 0; place = 0; name = p }

@@ -4,7 +4,7 @@ use Rattle.text.specs.Walk.{wrapOf}
 use Rattle.text.specs.declared.Layout.{Layout}
 use Rattle.text.specs.declared.TextDrawn.{TextDrawn}
 use Rattle.utf8.specs.declared.Step.{Step}
-use Rattle.thalluskin.specs.Modes.{strideOf}
+use Rattle.thalluskin.specs.Pages.{strideOf}
 use Rattle.thalluskin.specs.declared.PageNumbers.{PageNumbers}
 use Rattle.thalluskin.specs.declared.TextAnswer.{TextAnswer}
 use Rattle.thalluskin.specs.declared.StepAnswer.{StepAnswer}

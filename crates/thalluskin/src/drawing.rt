@@ -4,8 +4,9 @@ use crate::CharAnswer;
 use crate::PageNumbers;
 use crate::RowsAnswer;
 use crate::UnpackAnswer;
-use crate::modes::stride_of;
+use crate::pages::stride_of;
 use crate::placing::no_info;
+use crate::placing::no_supplier;
 use bitmaps::Drawn;
 use bitmaps::Rows;
 use bitmaps::Unpacked;
@@ -13,6 +14,7 @@ use glyphs::CharDrawn;
 use glyphs::draw_char;
 use glyphs::draw_glyph;
 use glyphs::unpack_glyph;
+use modes::mode_of;
 use paint::draw_bitmap;
 use place::GlyphInfo;
 use reads::CharCode;
@@ -23,8 +25,8 @@ ghost use Rattle.bitmaps.specs.Draw.{drawBitmap, shownLeaves};
 ghost use Rattle.glyphs.specs.Glyph.{drawGlyph, glyphLeaves};
 ghost use Rattle.glyphs.specs.Char.{drawChar, charLeaves};
 ghost use Rattle.glyphs.specs.Unpack.{unpackGlyph, unpackLeaves};
-ghost use Rattle.thalluskin.specs.Modes.{strideOf};
-ghost use Rattle.thalluskin.specs.Drawing.{placeOf, rowsAnswer, charAnswer, unpackAnswer};
+ghost use Rattle.thalluskin.specs.Pages.{modeIn, strideOf, placeOf};
+ghost use Rattle.thalluskin.specs.Drawing.{rowsAnswer, charAnswer, unpackAnswer};
 
 // What drawing a glyph answered.
 fn rows_answer(drawn: Drawn) -> RowsAnswer
@@ -84,12 +86,13 @@ pub extern "C" fn thalluskin_draw_glyph(
     buf: &mut [u32],
     page: PageNumbers,
 ) -> RowsAnswer
-    ensures { λ r. ⌜ r ≡ rowsAnswer (drawGlyph (now (bytes .entry)) rec info (length (now (buf .entry))) (placeOf page)) ⌝ }
-    ensures { λ r. ⌜ now (buf .exit) ≡ glyphLeaves (now (bytes .entry)) rec info (placeOf page) (page .colour) (drawGlyph (now (bytes .entry)) rec info (length (now (buf .entry))) (placeOf page)) (now (buf .entry)) ⌝ }
+    ensures { λ r. ⌜ r ≡ rowsAnswer (drawGlyph (now (bytes .entry)) rec (modeIn page) info (length (now (buf .entry))) (placeOf page)) ⌝ }
+    ensures { λ r. ⌜ now (buf .exit) ≡ glyphLeaves (now (bytes .entry)) rec info (placeOf page) (page .colour) (drawGlyph (now (bytes .entry)) rec (modeIn page) info (length (now (buf .entry))) (placeOf page)) (now (buf .entry)) ⌝ }
 {
     rows_answer(draw_glyph(
         bytes,
         rec,
+        mode_of(page.mode),
         info,
         &mut *buf,
         page.start,
@@ -104,11 +107,12 @@ fn char_answer(drawn: CharDrawn) -> CharAnswer
     ensures { λ r. ⌜ r ≡ charAnswer drawn ⌝ }
 {
     match drawn {
-        CharDrawn::Glyph(info, rows) => CharAnswer {
+        CharDrawn::Glyph(info, rows, by) => CharAnswer {
             refusal: 0,
             place: 0,
             info,
             rows,
+            by,
         },
         CharDrawn::Refused(r) => CharAnswer {
             refusal: r.number as u32,
@@ -118,6 +122,7 @@ fn char_answer(drawn: CharDrawn) -> CharAnswer
                 drawn: 0,
                 dropped: 0,
             },
+            by: no_supplier(),
         },
     }
 }
@@ -132,12 +137,13 @@ pub extern "C" fn thalluskin_draw_char(
     buf: &mut [u32],
     page: PageNumbers,
 ) -> CharAnswer
-    ensures { λ r. ⌜ r ≡ charAnswer (drawChar (now (bytes .entry)) rec (code .0) (length (now (buf .entry))) (placeOf page)) ⌝ }
-    ensures { λ r. ⌜ now (buf .exit) ≡ charLeaves (now (bytes .entry)) rec (placeOf page) (page .colour) (drawChar (now (bytes .entry)) rec (code .0) (length (now (buf .entry))) (placeOf page)) (now (buf .entry)) ⌝ }
+    ensures { λ r. ⌜ r ≡ charAnswer (drawChar (now (bytes .entry)) rec (modeIn page) (code .0) (length (now (buf .entry))) (placeOf page)) ⌝ }
+    ensures { λ r. ⌜ now (buf .exit) ≡ charLeaves (now (bytes .entry)) rec (placeOf page) (page .colour) (drawChar (now (bytes .entry)) rec (modeIn page) (code .0) (length (now (buf .entry))) (placeOf page)) (now (buf .entry)) ⌝ }
 {
     char_answer(draw_char(
         bytes,
         rec,
+        mode_of(page.mode),
         code,
         &mut *buf,
         page.start,
@@ -175,8 +181,16 @@ pub extern "C" fn thalluskin_unpack_glyph(
     buf: &mut [u8],
     page: PageNumbers,
 ) -> UnpackAnswer
-    ensures { λ r. ⌜ r ≡ unpackAnswer (unpackGlyph (now (bytes .entry)) rec info (length (now (buf .entry))) (page .start) (strideOf page)) ⌝ }
-    ensures { λ r. ⌜ now (buf .exit) ≡ unpackLeaves (now (bytes .entry)) rec info (page .start) (strideOf page) (unpackGlyph (now (bytes .entry)) rec info (length (now (buf .entry))) (page .start) (strideOf page)) (now (buf .entry)) ⌝ }
+    ensures { λ r. ⌜ r ≡ unpackAnswer (unpackGlyph (now (bytes .entry)) rec (modeIn page) info (length (now (buf .entry))) (page .start) (strideOf page)) ⌝ }
+    ensures { λ r. ⌜ now (buf .exit) ≡ unpackLeaves (now (bytes .entry)) rec info (page .start) (strideOf page) (unpackGlyph (now (bytes .entry)) rec (modeIn page) info (length (now (buf .entry))) (page .start) (strideOf page)) (now (buf .entry)) ⌝ }
 {
-    unpack_answer(unpack_glyph(bytes, rec, info, &mut *buf, page.start, stride_of(page)))
+    unpack_answer(unpack_glyph(
+        bytes,
+        rec,
+        mode_of(page.mode),
+        info,
+        &mut *buf,
+        page.start,
+        stride_of(page),
+    ))
 }

@@ -3,9 +3,10 @@
 // and the answers are structs by value. `include/thalluskin.h` says all this to C.
 //
 // Every answer but the version begins with `refusal`, the refusal's number or 0 for none, and `place`; then come
-// the values, which on a refusal are 0. A mode other than 0 is refused (15).
+// the values, which on a refusal are 0. A mode is a number, `modes::mode_of`, and one that stands for none is refused
+// (15).
 mod drawing;
-mod modes;
+mod pages;
 mod placing;
 mod reading;
 mod reasons;
@@ -17,6 +18,7 @@ pub use drawing::thalluskin_draw_bitmap;
 pub use drawing::thalluskin_draw_char;
 pub use drawing::thalluskin_draw_glyph;
 pub use drawing::thalluskin_unpack_glyph;
+use lookup::Supplier;
 use names::Span;
 use place::Extent;
 use place::GlyphInfo;
@@ -83,11 +85,13 @@ pub struct PropertyAnswer {
     pub string: Span,
 }
 
+// The glyph that shows a character, and the code that supplied it.
 #[repr(C)]
 pub struct GlyphAnswer {
     pub refusal: u32,
     pub place: usize,
     pub glyph: GlyphIndex,
+    pub by: Supplier,
 }
 
 // Where a name stands in the font's bytes.
@@ -119,12 +123,13 @@ pub struct ExtentAnswer {
     pub extent: Extent,
 }
 
-// A placed glyph.
+// A character's placed glyph, and the code that supplied it.
 #[repr(C)]
 pub struct InfoAnswer {
     pub refusal: u32,
     pub place: usize,
     pub info: GlyphInfo,
+    pub by: Supplier,
 }
 
 // The rows drawn and dropped of a glyph.
@@ -135,21 +140,24 @@ pub struct RowsAnswer {
     pub rows: Rows,
 }
 
-// A character's placed glyph, and its rows drawn and dropped.
+// A character's placed glyph, its rows drawn and dropped, and the code that supplied it.
 #[repr(C)]
 pub struct CharAnswer {
     pub refusal: u32,
     pub place: usize,
     pub info: GlyphInfo,
     pub rows: Rows,
+    pub by: Supplier,
 }
 
-// Why a character is not on the glass, or is: the reason's number, which is never 0, and how many rows were cut.
+// Why a character is not on the glass, or is: the reason's number, which is never 0, how many rows were cut, and the code
+// that the reason speaks of.
 #[repr(C)]
 pub struct WhyAnswer {
     pub refusal: u32,
     pub place: usize,
     pub reason: ReasonNumber,
+    pub by: Supplier,
 }
 
 // How many rows were unpacked.

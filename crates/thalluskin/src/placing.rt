@@ -1,10 +1,12 @@
 // The size of a font's letters, and a character placed.
 use crate::ExtentAnswer;
 use crate::InfoAnswer;
-use crate::modes::is_known;
+use lookup::Supplier;
+use modes::is_known;
+use modes::mode_of;
+use place::CharPrepared;
 use place::Extent;
 use place::GlyphInfo;
-use place::Prepared;
 use place::Sized;
 use place::char_info;
 use place::dimensions;
@@ -16,10 +18,11 @@ use tables::guard;
 use tables::record_fits;
 ghost use mathlib.Core.Path.{_≡_};
 ghost use Rattle.place.specs.Bounds as bounds;
-ghost use Rattle.place.specs.Info.{preparedIn};
+ghost use Rattle.place.specs.Info.{prepared};
 ghost use Rattle.tables.specs.Fits.{guarded};
-ghost use Rattle.place.specs.declared.Prepared.{Prepared};
-ghost use Rattle.thalluskin.specs.Modes.{isKnown};
+ghost use Rattle.lookup.specs.Served.{itself};
+ghost use Rattle.modes.specs.Modes.{isKnown, modeOf};
+ghost use Rattle.place.specs.declared.CharPrepared.{CharPrepared};
 ghost use Rattle.thalluskin.specs.Placing.{noInfo, extentAnswer, infoAnswer};
 
 // The bounds' height and width, as `place::dimensions` answers them. Refused, with place 0: 6, 11.
@@ -58,20 +61,32 @@ pub(crate) fn no_info() -> GlyphInfo
     }
 }
 
+// Nor is one supplied.
+pub(crate) fn no_supplier() -> Supplier
+    ensures { λ r. ⌜ r ≡ itself 0 ⌝ }
+{
+    Supplier {
+        code: CharCode(0),
+        is_default: false,
+    }
+}
+
 // What placing a character answered.
-fn info_answer(prepared: Prepared) -> InfoAnswer
+fn info_answer(prepared: CharPrepared) -> InfoAnswer
     ensures { λ r. ⌜ r ≡ infoAnswer prepared ⌝ }
 {
     match prepared {
-        Prepared::Info(info) => InfoAnswer {
+        CharPrepared::Info(info, by) => InfoAnswer {
             refusal: 0,
             place: 0,
             info,
+            by,
         },
-        Prepared::Refused(r) => InfoAnswer {
+        CharPrepared::Refused(r) => InfoAnswer {
             refusal: r.number as u32,
             place: r.place,
             info: no_info(),
+            by: no_supplier(),
         },
     }
 }
@@ -85,17 +100,11 @@ pub extern "C" fn thalluskin_prep_char(
     code: CharCode,
     mode: u32,
 ) -> InfoAnswer
-    ensures { λ r. ⌜ r ≡ infoAnswer (guarded Prepared.Refused (now (bytes .entry)) rec (isKnown mode) (preparedIn (now (bytes .entry)) rec (code .0))) ⌝ }
+    ensures { λ r. ⌜ r ≡ infoAnswer (guarded CharPrepared.Refused (now (bytes .entry)) rec (isKnown mode) (prepared (now (bytes .entry)) rec (modeOf mode) (code .0))) ⌝ }
 {
     let permit = guard(record_fits(bytes.len(), rec), is_known(mode));
     match permit {
-        Permit::Given => info_answer(char_info(
-            bytes,
-            rec.codes,
-            rec.metrics,
-            rec.accel.maxbounds,
-            code,
-        )),
-        Permit::Refused(r) => info_answer(Prepared::Refused(r)),
+        Permit::Given => info_answer(char_info(bytes, rec, mode_of(mode), code)),
+        Permit::Refused(r) => info_answer(CharPrepared::Refused(r)),
     }
 }

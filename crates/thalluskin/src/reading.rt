@@ -5,19 +5,21 @@ use crate::GlyphAnswer;
 use crate::MetricsAnswer;
 use crate::NameAnswer;
 use crate::PropertyAnswer;
-use crate::modes::is_known;
+use crate::placing::no_supplier;
 use font::Reading;
 use font::record_of;
 use load::Loaded;
 use load::blank;
 use load::load_in;
 use load::no_metrics;
-use lookup::Found;
-use lookup::glyph_of;
+use lookup::Served;
+use lookup::serve;
 use metrics::Accelerated;
 use metrics::Measured;
 use metrics::get_accelerators;
 use metrics::get_metrics;
+use modes::is_known;
+use modes::mode_of;
 use names::Named;
 use names::Span;
 use names::get_name;
@@ -36,16 +38,16 @@ ghost use mathlib.Core.Path.{_≡_};
 ghost use mathlib.Core.Bool.{true, false, cond};
 ghost use Rattle.font.specs.Shown.{recordOf};
 ghost use Rattle.font.specs.declared.Reading.{Reading};
-ghost use Rattle.lookup.specs.Lookup.{glyphOf};
+ghost use Rattle.lookup.specs.Served.{served};
 ghost use Rattle.metrics.specs.Measure.{getMetrics, getAccelerators};
 ghost use Rattle.names.specs.Names.{getName};
 ghost use Rattle.props.specs.Props.{propAt};
 ghost use Rattle.reads.specs.Said.{refusal};
 ghost use Rattle.tables.specs.Fits.{guarded};
-ghost use Rattle.lookup.specs.declared.Found.{Found};
+ghost use Rattle.lookup.specs.declared.Served.{Served};
 ghost use Rattle.load.specs.Load.{loaded, loadedStrictly};
 ghost use Rattle.load.specs.declared.Loaded.{Loaded};
-ghost use Rattle.thalluskin.specs.Modes.{isKnown};
+ghost use Rattle.modes.specs.Modes.{isKnown, modeOf};
 ghost use Rattle.thalluskin.specs.Reading.{fontAnswer, noSpan, propAnswer, propertyAnswer, glyphAnswer, nameAnswer, metricsAnswer, accelAnswer};
 
 // What loading or vetting answered.
@@ -155,24 +157,26 @@ pub extern "C" fn thalluskin_property(bytes: &[u8], rec: Record, number: u32) ->
 }
 
 // What looking a glyph up answered.
-fn glyph_answer(found: Found) -> GlyphAnswer
+fn glyph_answer(found: Served) -> GlyphAnswer
     ensures { λ r. ⌜ r ≡ glyphAnswer found ⌝ }
 {
     match found {
-        Found::Glyph(glyph) => GlyphAnswer {
+        Served::Glyph(glyph, by) => GlyphAnswer {
             refusal: 0,
             place: 0,
             glyph,
+            by,
         },
-        Found::Refused(r) => GlyphAnswer {
+        Served::Refused(r) => GlyphAnswer {
             refusal: r.number as u32,
             place: r.place,
             glyph: GlyphIndex(0),
+            by: no_supplier(),
         },
     }
 }
 
-// The glyph of a code, as `lookup::get_glyph` answers it. Refused, with place 0: 6, 15 for an unknown mode, 9.
+// The glyph that shows a code, as `lookup::get_glyph` answers it. Refused, with place 0: 6, 15 for an unknown mode, 9.
 #[no_mangle]
 pub extern "C" fn thalluskin_glyph(
     bytes: &[u8],
@@ -180,12 +184,12 @@ pub extern "C" fn thalluskin_glyph(
     code: CharCode,
     mode: u32,
 ) -> GlyphAnswer
-    ensures { λ r. ⌜ r ≡ glyphAnswer (guarded Found.Refused (now (bytes .entry)) rec (isKnown mode) (glyphOf (now (bytes .entry)) (rec .codes) (code .0))) ⌝ }
+    ensures { λ r. ⌜ r ≡ glyphAnswer (guarded Served.Refused (now (bytes .entry)) rec (isKnown mode) (served (now (bytes .entry)) (rec .codes) (modeOf mode) (code .0))) ⌝ }
 {
     let permit = guard(record_fits(bytes.len(), rec), is_known(mode));
     match permit {
-        Permit::Given => glyph_answer(glyph_of(bytes, rec.codes, code)),
-        Permit::Refused(r) => glyph_answer(Found::Refused(r)),
+        Permit::Given => glyph_answer(serve(bytes, rec.codes, mode_of(mode), code)),
+        Permit::Refused(r) => glyph_answer(Served::Refused(r)),
     }
 }
 

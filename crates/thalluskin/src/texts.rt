@@ -2,7 +2,8 @@
 use crate::PageNumbers;
 use crate::StepAnswer;
 use crate::TextAnswer;
-use crate::modes::stride_of;
+use crate::pages::stride_of;
+use modes::mode_of;
 use reads::CharCode;
 use tables::Record;
 use text::TextDrawn;
@@ -16,6 +17,7 @@ ghost use mathlib.Core.Path.{_≡_};
 ghost use lib.ListN.{length};
 ghost use Rattle.text.specs.Text.{drawString, stringLeaves};
 ghost use Rattle.utf8.specs.Step.{stepAt};
+ghost use Rattle.thalluskin.specs.Pages.{modeIn};
 ghost use Rattle.thalluskin.specs.Texts.{layoutOf, textAnswer, stepAnswer};
 
 // What drawing a text answered.
@@ -50,12 +52,13 @@ pub extern "C" fn thalluskin_draw_string(
     buf: &mut [u32],
     page: PageNumbers,
 ) -> TextAnswer
-    ensures { λ r. ⌜ r ≡ textAnswer (drawString (now (bytes .entry)) rec (now (text .entry)) (length (now (buf .entry))) (layoutOf page)) ⌝ }
-    ensures { λ r. ⌜ now (buf .exit) ≡ stringLeaves (now (bytes .entry)) rec (now (text .entry)) (layoutOf page) (page .colour) (drawString (now (bytes .entry)) rec (now (text .entry)) (length (now (buf .entry))) (layoutOf page)) (now (buf .entry)) ⌝ }
+    ensures { λ r. ⌜ r ≡ textAnswer (drawString (now (bytes .entry)) rec (modeIn page) (now (text .entry)) (length (now (buf .entry))) (layoutOf page)) ⌝ }
+    ensures { λ r. ⌜ now (buf .exit) ≡ stringLeaves (now (bytes .entry)) rec (modeIn page) (now (text .entry)) (layoutOf page) (page .colour) (drawString (now (bytes .entry)) rec (modeIn page) (now (text .entry)) (length (now (buf .entry))) (layoutOf page)) (now (buf .entry)) ⌝ }
 {
     text_answer(draw_string(
         bytes,
         rec,
+        mode_of(page.mode),
         text,
         &mut *buf,
         page.start,
@@ -75,11 +78,12 @@ pub extern "C" fn thalluskin_text_check(
     len: usize,
     page: PageNumbers,
 ) -> TextAnswer
-    ensures { λ r. ⌜ r ≡ textAnswer (drawString (now (bytes .entry)) rec (now (text .entry)) len (layoutOf page)) ⌝ }
+    ensures { λ r. ⌜ r ≡ textAnswer (drawString (now (bytes .entry)) rec (modeIn page) (now (text .entry)) len (layoutOf page)) ⌝ }
 {
     text_answer(text_check(
         bytes,
         rec,
+        mode_of(page.mode),
         text,
         len,
         page.start,

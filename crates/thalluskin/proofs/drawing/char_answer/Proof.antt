@@ -10,7 +10,8 @@ char-answer-spec =
     (tie.spec
     (λ c. search needs)  -- enum-known-drawn
     (λ c. search needs)  -- enum-known-drawn-2
-    (λ c. search needs)  -- cast-t6
+    (λ c. search needs)  -- cast-t7
     (λ c κs. search needs)  -- no-info-requires
+    (λ c κs. search needs)  -- no-supplier-requires
     (λ c. search (matched charAnswer))  -- returns
-    (λ c. search (matched charAnswer, c .no-info .ensures)))  -- returns-2
+    (λ c. search (matched charAnswer, c .before .no-info .ensures, c .no-supplier .ensures)))  -- returns-2

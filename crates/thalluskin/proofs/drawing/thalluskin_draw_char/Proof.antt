@@ -9,8 +9,9 @@ pub thalluskin-draw-char-spec : {M : Type 1} → statement M
 thalluskin-draw-char-spec =
     tie.close
     (tie.spec
+    (λ c κs. search needs)  -- mode-of-requires
     (λ c κs. search needs)  -- stride-of-requires
     (λ c κs. search needs)  -- draw-char-requires
     (λ c κs. search needs)  -- char-answer-requires
     (λ c. search needs)  -- same-length
-    (λ c. search (called charAnswer, ← known tie.After-stride-of (search) .stride-of .ensures, ← known tie.After-draw-char (search) .draw-char .ensures .0)))  -- returns
+    (λ c. search (called charAnswer, ← known tie.After-mode-of (search) .mode-of .ensures, ← known tie.After-stride-of (search) .stride-of .ensures, ← known tie.After-draw-char (search) .draw-char .ensures .0)))  -- returns

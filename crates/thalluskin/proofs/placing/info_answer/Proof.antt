@@ -10,7 +10,8 @@ info-answer-spec =
     (tie.spec
     (λ c. search needs)  -- enum-known-prepared
     (λ c. search needs)  -- enum-known-prepared-2
-    (λ c. search needs)  -- cast-t5
+    (λ c. search needs)  -- cast-t6
     (λ c κs. search needs)  -- no-info-requires
+    (λ c κs. search needs)  -- no-supplier-requires
     (λ c. search (matched infoAnswer))  -- returns
-    (λ c. search (matched infoAnswer, c .no-info .ensures)))  -- returns-2
+    (λ c. search (matched infoAnswer, c .before .no-info .ensures, c .no-supplier .ensures)))  -- returns-2

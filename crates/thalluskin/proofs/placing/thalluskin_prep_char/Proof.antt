@@ -1,4 +1,5 @@
-use Rattle.place.specs.declared.Prepared.{Prepared}
+use Rattle.reads.proofs.Places.{known}
+use Rattle.place.specs.declared.CharPrepared.{CharPrepared}
 use Rattle.thalluskin.specs.Placing.{infoAnswer}
 use Rattle.thalluskin.proofs.Answers.{guard-given, guard-refused}
 use borrow.Author.Needs.{needs}
@@ -13,9 +14,10 @@ thalluskin-prep-char-spec =
     (λ c κs. search needs)  -- is-known-requires
     (λ c κs. search needs)  -- guard-requires
     (λ c. search needs)  -- enum-told
+    (λ c κs. search needs)  -- mode-of-requires
     (λ c κs. search needs)  -- char-info-requires
     (λ c κs. search needs)  -- info-answer-requires
     (λ c. search needs)  -- enum-known-permit
     (λ c κs. search needs)  -- info-answer-requires-2
-    (λ c. search (guard-given infoAnswer Prepared.Refused))  -- returns
-    (λ c. search (guard-refused infoAnswer Prepared.Refused)))  -- returns-2
+    (λ c. search (guard-given infoAnswer CharPrepared.Refused, ← known tie.After-mode-of (search) .mode-of .ensures))  -- returns
+    (λ c. search (guard-refused infoAnswer CharPrepared.Refused)))  -- returns-2

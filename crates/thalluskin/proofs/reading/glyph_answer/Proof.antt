@@ -10,6 +10,7 @@ glyph-answer-spec =
     (tie.spec
     (λ c. search needs)  -- enum-known-found
     (λ c. search needs)  -- enum-known-found-2
-    (λ c. search needs)  -- cast-t5
+    (λ c. search needs)  -- cast-t6
+    (λ c κs. search needs)  -- no-supplier-requires
     (λ c. search (matched glyphAnswer))  -- returns
-    (λ c. search (matched glyphAnswer)))  -- returns-2
+    (λ c. search (matched glyphAnswer, c .no-supplier .ensures)))  -- returns-2

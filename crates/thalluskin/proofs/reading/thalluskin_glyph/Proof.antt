@@ -1,4 +1,5 @@
-use Rattle.lookup.specs.declared.Found.{Found}
+use Rattle.reads.proofs.Places.{known}
+use Rattle.lookup.specs.declared.Served.{Served}
 use Rattle.thalluskin.specs.Reading.{glyphAnswer}
 use Rattle.thalluskin.proofs.Answers.{guard-given, guard-refused}
 use borrow.Author.Needs.{needs}
@@ -13,9 +14,10 @@ thalluskin-glyph-spec =
     (λ c κs. search needs)  -- is-known-requires
     (λ c κs. search needs)  -- guard-requires
     (λ c. search needs)  -- enum-told
-    (λ c κs. search needs)  -- glyph-of-requires
+    (λ c κs. search needs)  -- mode-of-requires
+    (λ c κs. search needs)  -- serve-requires
     (λ c κs. search needs)  -- glyph-answer-requires
     (λ c. search needs)  -- enum-known-permit
     (λ c κs. search needs)  -- glyph-answer-requires-2
-    (λ c. search (guard-given glyphAnswer Found.Refused))  -- returns
-    (λ c. search (guard-refused glyphAnswer Found.Refused)))  -- returns-2
+    (λ c. search (guard-given glyphAnswer Served.Refused, ← known tie.After-mode-of (search) .mode-of .ensures))  -- returns
+    (λ c. search (guard-refused glyphAnswer Served.Refused)))  -- returns-2

@@ -3,7 +3,7 @@ use mathlib.Core.Path.{_≡_, ap, _∙_}
 use mathlib.Core.Bool.{Bool, true, false, cond}
 use Rattle.reads.specs.Said.{refusal}
 use Rattle.load.specs.declared.Loaded.{Loaded}
-use Rattle.thalluskin.specs.Modes.{isKnown}
+use Rattle.modes.specs.Modes.{isKnown}
 use Rattle.thalluskin.specs.Reading.{fontAnswer}
 use Rattle.thalluskin.specs.declared.FontAnswer.{FontAnswer}
 use borrow.Author.Needs.{needs}

@@ -9,7 +9,8 @@ pub thalluskin-why-spec : {M : Type 1} → statement M
 thalluskin-why-spec =
     tie.close
     (tie.spec
+    (λ c κs. search needs)  -- mode-of-requires
     (λ c κs. search needs)  -- stride-of-requires
     (λ c κs. search needs)  -- why-requires
     (λ c κs. search needs)  -- why-answer-requires
-    (λ c. search (called whyAnswer, ← known tie.After-stride-of (search) .stride-of .ensures)))  -- returns
+    (λ c. search (called whyAnswer, ← known tie.After-mode-of (search) .mode-of .ensures, ← known tie.After-stride-of (search) .stride-of .ensures)))  -- returns

@@ -11,6 +11,7 @@ why-answer-spec =
     (λ c. search needs)  -- enum-known-told
     (λ c κs. search needs)  -- reason-number-requires
     (λ c. search needs)  -- enum-known-told-2
-    (λ c. search needs)  -- cast-t5
+    (λ c. search needs)  -- cast-t7
+    (λ c κs. search needs)  -- no-supplier-requires
     (λ c. search (matched whyAnswer, c .reason-number .ensures))  -- returns
-    (λ c. search (matched whyAnswer)))  -- returns-2
+    (λ c. search (matched whyAnswer, c .no-supplier .ensures)))  -- returns-2

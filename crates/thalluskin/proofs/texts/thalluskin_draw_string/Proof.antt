@@ -9,9 +9,10 @@ pub thalluskin-draw-string-spec : {M : Type 1} → statement M
 thalluskin-draw-string-spec =
     tie.close
     (tie.spec
+    (λ c κs. search needs)  -- mode-of-requires
     (λ c κs. search needs)  -- wrap-of-requires
     (λ c κs. search needs)  -- stride-of-requires
     (λ c κs. search needs)  -- draw-string-requires
     (λ c κs. search needs)  -- text-answer-requires
     (λ c. search needs)  -- same-length
-    (λ c. search (called textAnswer, ← known tie.After-wrap-of (search) .wrap-of .ensures, ← known tie.After-stride-of (search) .stride-of .ensures, ← known tie.After-draw-string (search) .draw-string .ensures .0)))  -- returns
+    (λ c. search (called textAnswer, ← known tie.After-mode-of (search) .mode-of .ensures, ← known tie.After-wrap-of (search) .wrap-of .ensures, ← known tie.After-stride-of (search) .stride-of .ensures, ← known tie.After-draw-string (search) .draw-string .ensures .0)))  -- returns

@@ -9,8 +9,9 @@ pub thalluskin-text-check-spec : {M : Type 1} → statement M
 thalluskin-text-check-spec =
     tie.close
     (tie.spec
+    (λ c κs. search needs)  -- mode-of-requires
     (λ c κs. search needs)  -- wrap-of-requires
     (λ c κs. search needs)  -- stride-of-requires
     (λ c κs. search needs)  -- text-check-requires
     (λ c κs. search needs)  -- text-answer-requires
-    (λ c. search (called textAnswer, ← known tie.After-wrap-of (search) .wrap-of .ensures, ← known tie.After-stride-of (search) .stride-of .ensures)))  -- returns
+    (λ c. search (called textAnswer, ← known tie.After-mode-of (search) .mode-of .ensures, ← known tie.After-wrap-of (search) .wrap-of .ensures, ← known tie.After-stride-of (search) .stride-of .ensures)))  -- returns

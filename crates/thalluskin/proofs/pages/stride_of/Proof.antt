@@ -1,7 +1,7 @@
 use Rattle.thalluskin.proofs.Strides.{stride-known, stride-unknown}
 use borrow.Author.Needs.{needs}
-use Rattle.thalluskin.proofs.modes.stride_of.Statement.{statement}
-use Rattle.thalluskin.proofs.modes.stride_of.Tie as tie
+use Rattle.thalluskin.proofs.pages.stride_of.Statement.{statement}
+use Rattle.thalluskin.proofs.pages.stride_of.Tie as tie
 
 pub stride-of-spec : {M : Type 1} → statement M
 stride-of-spec =

@@ -1,13 +1,8 @@
-// The mode of a call. There is one, 0; a number for one that is not there is an argument outside its limits.
+// A page in a mode that is not there.
 use crate::PageNumbers;
+use modes::is_known;
 ghost use mathlib.Core.Path.{_≡_};
-ghost use Rattle.thalluskin.specs.Modes.{isKnown, strideOf};
-
-pub(crate) fn is_known(mode: u32) -> bool
-    ensures { λ r. ⌜ r ≡ isKnown mode ⌝ }
-{
-    mode == 0
-}
+ghost use Rattle.thalluskin.specs.Pages.{strideOf};
 
 // The line length to draw with. In an unknown mode it is 0, which is outside its limits: so the call itself tests the
 // record, and then refuses, and no test is made twice.
