@@ -9,20 +9,23 @@ use lib.Dec.{ltb}
 use lib.ListN.{length}
 use borrow.Author.Tests.{ltb-true, ltb-false}
 use Rattle.reads.specs.Said.{refusal}
+use Rattle.reads.specs.declared.GlyphIndex.{GlyphIndex}
 use Rattle.reads.specs.declared.Refusal.{Refusal}
 use Rattle.reads.proofs.Tests.{split}
 use Rattle.tables.specs.Fits.{recordFits}
 use Rattle.tables.specs.declared.Record.{Record}
+use Rattle.lookup.specs.Lookup.{glyphOf}
+use Rattle.lookup.specs.declared.Found.{Found}
 use Rattle.lookup.proofs.OutsideRange.{Outside, outside-none, range-end}
 use Rattle.names.specs.Names.{nameOf}
 use Rattle.names.specs.declared.Named.{Named}
 use Rattle.names.specs.declared.Span.{Span}
 use Rattle.bitmaps.specs.Picture.{noBitmap, unreadable, rowsShort}
-use Rattle.place.specs.Info.{prepared, preparedIn}
+use Rattle.place.specs.Info.{infoIn}
 use Rattle.place.specs.declared.GlyphInfo.{GlyphInfo}
 use Rattle.place.specs.declared.Prepared.{Prepared}
 use Rattle.frames.specs.Frames.{frame, frameInfo, frameOf}
-use Rattle.frames.specs.Whole.{whenNamed, wholeBox, whenPlaced, wholeGlyph}
+use Rattle.frames.specs.Whole.{whenNamed, wholeBox, whenPlaced, whenFound, wholeGlyph}
 use Rattle.frames.specs.Put.{lineInto, lineLeaves, glyphInto, frameInto, frameLeaves}
 use Rattle.frames.specs.declared.Printed.{Printed}
 
@@ -52,14 +55,19 @@ module _ (s : List ℕ) (rec : Record) (i : GlyphInfo) (missing : Bool) (missing
         unfolding wholeBox
         whole-nameless r e = rw (← missing-is, has, ← strange-is, known, ← short-is, inside, ← named-is, e)
 
-module _ (s : List ℕ) (rec : Record) (code : ℕ) (placed : Prepared) (placed-is : placed ≡ preparedIn s rec code) where
-  pub glyph-whole : (i : GlyphInfo) (r : Prepared) → placed ≡ Prepared.Info i → r ≡ wholeBox s rec i → r ≡ wholeGlyph s rec code
+module _ (s : List ℕ) (rec : Record) (code : ℕ) (found : Found) (found-is : found ≡ glyphOf s (rec .codes) code) where
+  pub glyph-none : (r : Refusal) → found ≡ Found.Refused r → Prepared.Refused r ≡ wholeGlyph s rec code
   unfolding wholeGlyph
-  glyph-whole i r e is = rw (← placed-is, e) is
+  glyph-none r e = rw (← found-is, e)
 
-  pub glyph-refused : (r : Refusal) → placed ≡ Prepared.Refused r → Prepared.Refused r ≡ wholeGlyph s rec code
-  unfolding wholeGlyph
-  glyph-refused r e = rw (← placed-is, e)
+  module _ (g : GlyphIndex) (has : found ≡ Found.Glyph g) (placed : Prepared) (placed-is : placed ≡ infoIn s rec g) where
+    pub glyph-whole : (i : GlyphInfo) (r : Prepared) → placed ≡ Prepared.Info i → r ≡ wholeBox s rec i → r ≡ wholeGlyph s rec code
+    unfolding wholeGlyph
+    glyph-whole i r e is = rw (← found-is, has, ← placed-is, e) is
+
+    pub glyph-refused : (r : Refusal) → placed ≡ Prepared.Refused r → Prepared.Refused r ≡ wholeGlyph s rec code
+    unfolding wholeGlyph
+    glyph-refused r e = rw (← found-is, has, ← placed-is, e)
 
 -- ---- where there is a frame
 
@@ -87,14 +95,18 @@ module _ (s : List ℕ) (rec : Record) where
   placed-in (Prepared.Info j) i e = box-in j i e
   placed-in (Prepared.Refused r) i e = absurd (no-info r i e)
 
+  found-in : (x : Found) (i : GlyphInfo) → whenFound s rec x ≡ Prepared.Info i → InData i
+  found-in (Found.Glyph g) i e = placed-in (infoIn s rec g) i e
+  found-in (Found.Refused r) i e = absurd (no-info r i e)
+
   module _ (code : ℕ) where
     pub whole-rows : (i : GlyphInfo) → wholeGlyph s rec code ≡ Prepared.Info i → InData i
     unfolding wholeGlyph
-    whole-rows i e = placed-in (preparedIn s rec code) i e
+    whole-rows i e = found-in (glyphOf s (rec .codes) code) i e
 
     -- a code outside the table's range has none
     pub outside-whole : Outside (rec .codes) code → wholeGlyph s rec code ≡ Prepared.Refused (refusal 9 0)
-    unfolding wholeGlyph prepared
+    unfolding wholeGlyph
     outside-whole out = rw (outside-none (rec .codes) code s out) refl
 
     module _ (whole : Prepared) (i : GlyphInfo) (whole-is : whole ≡ wholeGlyph s rec code) (e : whole ≡ Prepared.Info i) where

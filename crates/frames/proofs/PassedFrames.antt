@@ -19,7 +19,7 @@ use Rattle.names.specs.declared.Named.{Named}
 use Rattle.metrics.specs.Measure.{glyphMetrics}
 use Rattle.bitmaps.specs.Picture.{noBitmap, unreadable, rowsShort}
 use Rattle.place.specs.Bounds.{boundsOf}
-use Rattle.place.specs.Info.{boxOf, prepared, saidPrepared}
+use Rattle.place.specs.Info.{boxOf, saidPrepared}
 use Rattle.place.specs.declared.GlyphInfo.{GlyphInfo}
 use Rattle.place.specs.declared.Prepared.{Prepared}
 use Rattle.vet.specs.Vet.{nameFault, boxFault, vetted}
@@ -50,7 +50,7 @@ module _ (s : List ℕ) (rec : Record) (i : GlyphInfo) (readable : unreadable (r
 -- a code whose frame would lack something has no glyph
 pub passed-whole : (s : List ℕ) (rec : Record) → vetted s ≡ Vetted.Passed rec
     → (code : ℕ) (r : Refusal) → wholeGlyph s rec code ≡ Prepared.Refused r → glyphOf s (rec .codes) code ≡ Found.Refused r
-unfolding wholeGlyph prepared wholeBox
+unfolding wholeGlyph wholeBox
 passed-whole s rec passed code r e = by (glyphOf s (rec .codes) code) refl where
   by : (x : Found) → glyphOf s (rec .codes) code ≡ x → x ≡ Found.Refused r
   by (Found.Glyph g) found =

@@ -10,16 +10,19 @@ use Rattle.reads.proofs.Numbers.{has-values, has-number, whichever, wider}
 use Rattle.tables.specs.Fits.{recordFits}
 use Rattle.tables.specs.declared.Record.{Record}
 use Rattle.tables.proofs.RecordParts.{name-strings}
+use Rattle.lookup.specs.Lookup.{glyphOf, saidFound}
+use Rattle.lookup.specs.declared.Found.{Found}
+use Rattle.lookup.proofs.Refusals.{glyph-of-refusals}
 use Rattle.names.specs.Names.{nameOf, saidNamed}
 use Rattle.names.specs.declared.Named.{Named}
 use Rattle.names.proofs.Refusals.{name-in-data}
 use Rattle.bitmaps.specs.Picture.{noBitmap, unreadable, rowsShort}
 use Rattle.place.specs.Bounds.{boundsOf}
-use Rattle.place.specs.Info.{preparedIn, ofPlacing, saidPrepared}
+use Rattle.place.specs.Info.{infoIn, ofPlacing, saidPrepared}
 use Rattle.place.specs.declared.GlyphInfo.{GlyphInfo}
 use Rattle.place.specs.declared.Prepared.{Prepared}
-use Rattle.place.proofs.Refusals.{char-info-refusals}
-use Rattle.frames.specs.Whole.{whenNamed, wholeBox, whenPlaced, wholeGlyph}
+use Rattle.place.proofs.Refusals.{info-of-refusals}
+use Rattle.frames.specs.Whole.{whenNamed, wholeBox, whenPlaced, whenFound, wholeGlyph}
 use Rattle.frames.specs.Frames.{frame}
 use Rattle.frames.specs.Put.{lineInto, glyphInto, refusedLine, refusedInto, ofFrames, saidPrinted}
 
@@ -45,13 +48,16 @@ module _ (s : List ℕ) (rec : Record) (fits : recordFits (length s) rec ≡ tru
       (whichever saidPrepared (rowsShort s b g (i .width) (i .height)) (has-number refl)
       (named-numbered (nameOf s (rec .names) g) i (name-in-data s (rec .names) g (name-strings (length s) rec fits)))))
 
-  placed-numbered : (x : Prepared) → NumberedBy (9 ∷ ofPlacing) (saidPrepared x) → NumberedBy ofFrames (saidPrepared (whenPlaced s rec x))
+  placed-numbered : (x : Prepared) → NumberedBy ofPlacing (saidPrepared x) → NumberedBy ofFrames (saidPrepared (whenPlaced s rec x))
   placed-numbered (Prepared.Info i) h = box-numbered i
   placed-numbered (Prepared.Refused r) h = wider refl h
 
   glyph-numbered : (code : ℕ) → NumberedBy ofFrames (saidPrepared (wholeGlyph s rec code))
   unfolding wholeGlyph
-  glyph-numbered code = placed-numbered (preparedIn s rec code) (char-info-refusals s (rec .codes) (rec .metrics) (boundsOf rec) code)
+  glyph-numbered code = by (glyphOf s (rec .codes) code) (glyph-of-refusals s (rec .codes) code) where
+    by : (x : Found) → NumberedBy (9 ∷ []) (saidFound x) → NumberedBy ofFrames (saidPrepared (whenFound s rec x))
+    by (Found.Glyph g) h = placed-numbered (infoIn s rec g) (info-of-refusals s (rec .metrics) (boundsOf rec) g)
+    by (Found.Refused r) h = wider refl h
 
   into-numbered : (code room : ℕ) (x : Prepared) → NumberedBy ofFrames (saidPrepared x) → NumberedBy ofFrames (saidPrinted (glyphInto s rec code room x))
   into-numbered code room (Prepared.Info i) h = wider refl (line-numbered (frame s rec code i) room)

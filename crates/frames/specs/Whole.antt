@@ -5,10 +5,12 @@ use mathlib.Core.Bool.{cond}
 use mathlib.Core.List.{List}
 use Rattle.reads.specs.Said.{refusal}
 use Rattle.tables.specs.declared.Record.{Record}
+use Rattle.lookup.specs.Lookup.{glyphOf}
+use Rattle.lookup.specs.declared.Found.{Found}
 use Rattle.names.specs.Names.{nameOf}
 use Rattle.names.specs.declared.Named.{Named}
 use Rattle.bitmaps.specs.Picture.{noBitmap, unreadable, rowsShort}
-use Rattle.place.specs.Info.{preparedIn}
+use Rattle.place.specs.Info.{infoIn}
 use Rattle.place.specs.declared.GlyphInfo.{GlyphInfo}
 use Rattle.place.specs.declared.Prepared.{Prepared}
 
@@ -29,6 +31,10 @@ abbrev pub whenPlaced : List ℕ → Record → Prepared → Prepared
 whenPlaced s rec (Prepared.Info i) = wholeBox s rec i
 whenPlaced s rec (Prepared.Refused r) = Prepared.Refused r
 
--- of a code: 9, 10, 11, then those
+-- of a code's own glyph, "the dump stay[s] plain": 9, 10, 11, then those
+abbrev pub whenFound : List ℕ → Record → Found → Prepared
+whenFound s rec (Found.Glyph g) = whenPlaced s rec (infoIn s rec g)
+whenFound s rec (Found.Refused r) = Prepared.Refused r
+
 unfoldable pub wholeGlyph : List ℕ → Record → ℕ → Prepared
-wholeGlyph s rec code = whenPlaced s rec (preparedIn s rec code)
+wholeGlyph s rec code = whenFound s rec (glyphOf s (rec .codes) code)

@@ -2,11 +2,13 @@
 use bitmaps::no_bitmap;
 use bitmaps::rows_short;
 use bitmaps::unreadable;
+use lookup::Found;
+use lookup::glyph_of;
 use names::Named;
 use names::name_of;
 use place::GlyphInfo;
 use place::Prepared;
-use place::char_info;
+use place::info_of;
 use reads::CharCode;
 use reads::Refusal;
 use tables::Record;
@@ -42,13 +44,19 @@ fn whole_box(s: &[u8], rec: Record, i: GlyphInfo) -> Prepared
     }
 }
 
-// Of a code: 9, 10, 11, then those.
+// Of a code's own glyph: 9, 10, 11, then those.
 pub(crate) fn whole_glyph(s: &[u8], rec: Record, code: CharCode) -> Prepared
     ensures { λ r. ⌜ r ≡ wholeGlyph (now (s .entry)) rec (code .0) ⌝ }
 {
-    let placed = char_info(s, rec.codes, rec.metrics, rec.accel.maxbounds, code);
-    match placed {
-        Prepared::Info(i) => whole_box(s, rec, i),
-        Prepared::Refused(r) => Prepared::Refused(r),
+    let found = glyph_of(s, rec.codes, code);
+    match found {
+        Found::Glyph(g) => {
+            let placed = info_of(s, rec.metrics, rec.accel.maxbounds, g);
+            match placed {
+                Prepared::Info(i) => whole_box(s, rec, i),
+                Prepared::Refused(r) => Prepared::Refused(r),
+            }
+        }
+        Found::Refused(r) => Prepared::Refused(r),
     }
 }

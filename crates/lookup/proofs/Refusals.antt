@@ -10,7 +10,7 @@ use Rattle.reads.proofs.Numbers.{has-values, has-number, whichever, the-one}
 use Rattle.tables.specs.declared.EncodingData.{EncodingData}
 use Rattle.modes.specs.declared.Mode.{Mode}
 use Rattle.lookup.specs.Lookup.{slotOf, glyphAt, glyphOf, saidFound}
-use Rattle.lookup.specs.Served.{theDefault, suppliedBy, standIn, orDefault, served, saidServed}
+use Rattle.lookup.specs.Served.{theDefault, suppliedBy, standIn, orElse, served, saidServed}
 use Rattle.lookup.specs.declared.Found.{Found}
 use Rattle.lookup.specs.declared.Slot.{Slot}
 use Rattle.lookup.specs.declared.Supplier.{Supplier}
@@ -27,16 +27,18 @@ module _ (s : List ℕ) (c : EncodingData) (code : ℕ) where
   no-glyph-nine r e = the-one (r .number) 9 ((rw e at glyph-of-refusals) .is)
 
 module _ (s : List ℕ) (c : EncodingData) where
-  stand-in-refusals : NumberedBy (9 ∷ []) (saidServed (standIn s c))
+  pub stand-in-refusals : (mode : Mode) → NumberedBy (9 ∷ []) (saidServed (standIn s c mode))
   unfolding standIn
-  stand-in-refusals = passed-on (theDefault c) (glyphOf s c (c .default)) (glyph-of-refusals s c (c .default)) where
-    passed-on : (by : Supplier) (x : Found) → NumberedBy (9 ∷ []) (saidFound x) → NumberedBy (9 ∷ []) (saidServed (suppliedBy by x))
-    passed-on by (Found.Glyph g) h = has-values
-    passed-on by (Found.Refused r) h = h
+  stand-in-refusals mode =
+      whichever saidServed (mode .default) (passed-on (theDefault c) (glyphOf s c (c .default)) (glyph-of-refusals s c (c .default))) (has-number refl)
+    where
+      passed-on : (by : Supplier) (x : Found) → NumberedBy (9 ∷ []) (saidFound x) → NumberedBy (9 ∷ []) (saidServed (suppliedBy by x))
+      passed-on by (Found.Glyph g) h = has-values
+      passed-on by (Found.Refused r) h = h
 
   pub served-refusals : (mode : Mode) (code : ℕ) → NumberedBy (9 ∷ []) (saidServed (served s c mode code))
   unfolding served
-  served-refusals mode code = by (glyphOf s c code) (glyph-of-refusals s c code) where
-    by : (x : Found) → NumberedBy (9 ∷ []) (saidFound x) → NumberedBy (9 ∷ []) (saidServed (orDefault s c mode code x))
-    by (Found.Glyph g) h = has-values
-    by (Found.Refused r) h = whichever saidServed (mode .default) stand-in-refusals h
+  served-refusals mode code = by (glyphOf s c code) where
+    by : (x : Found) → NumberedBy (9 ∷ []) (saidServed (orElse code x (standIn s c mode)))
+    by (Found.Glyph g) = has-values
+    by (Found.Refused r) = stand-in-refusals mode

@@ -1,6 +1,6 @@
 -- What a lookup in a mode answers, by the tests that the code makes on its way.
 use Prim.Native.Nat.{ℕ}
-use mathlib.Core.Path.{_≡_}
+use mathlib.Core.Path.{_≡_, refl}
 use mathlib.Core.Bool.{Bool, true, false}
 use mathlib.Core.List.{List}
 use lib.ListN.{length}
@@ -12,32 +12,37 @@ use Rattle.tables.specs.declared.EncodingData.{EncodingData}
 use Rattle.tables.specs.declared.Record.{Record}
 use Rattle.modes.specs.declared.Mode.{Mode}
 use Rattle.lookup.specs.Lookup.{glyphOf}
-use Rattle.lookup.specs.Served.{itself, theDefault, standIn, served, getGlyph}
+use Rattle.lookup.specs.Served.{itself, theDefault, standIn, orElse, served, getGlyph}
 use Rattle.lookup.specs.declared.Found.{Found}
 use Rattle.lookup.specs.declared.Served.{Served}
 
-module _ (s : List ℕ) (c : EncodingData) (found : Found) (found-is : found ≡ glyphOf s c (c .default)) where
-  pub stands-in : (g : GlyphIndex) → found ≡ Found.Glyph g → Served.Glyph g (theDefault c) ≡ standIn s c
+module _ (s : List ℕ) (c : EncodingData) (mode : Mode) where
+  pub none-stands-in : mode .default ≡ false → Served.Refused (refusal 9 0) ≡ standIn s c mode
   unfolding standIn
-  stands-in g e = rw (← found-is, e)
+  none-stands-in off = rw off
 
-  pub none-stands-in : (r : Refusal) → found ≡ Found.Refused r → Served.Refused r ≡ standIn s c
-  unfolding standIn
-  none-stands-in r e = rw (← found-is, e)
+  module _ (on : mode .default ≡ true) (found : Found) (found-is : found ≡ glyphOf s c (c .default)) where
+    pub default-stands-in : (g : GlyphIndex) → found ≡ Found.Glyph g → Served.Glyph g (theDefault c) ≡ standIn s c mode
+    unfolding standIn
+    default-stands-in g e = rw (on, ← found-is, e)
 
-module _ (s : List ℕ) (c : EncodingData) (mode : Mode) (code : ℕ) (found : Found) (found-is : found ≡ glyphOf s c code) where
-  pub served-itself : (g : GlyphIndex) → found ≡ Found.Glyph g → Served.Glyph g (itself code) ≡ served s c mode code
-  unfolding served
-  served-itself g e = rw (← found-is, e)
+    pub default-lacks-too : (r : Refusal) → found ≡ Found.Refused r → Served.Refused r ≡ standIn s c mode
+    unfolding standIn
+    default-lacks-too r e = rw (on, ← found-is, e)
 
-  module _ (r : Refusal) (none : found ≡ Found.Refused r) where
-    pub served-default : (answer : Served) → mode .default ≡ true → answer ≡ standIn s c → answer ≡ served s c mode code
-    unfolding served
-    served-default answer t is = rw (← found-is, none, t) is
+-- a code's own glyph, or the other
+module _ (code : ℕ) (own : Found) (other : Served) where
+  pub own-first : (g : GlyphIndex) → own ≡ Found.Glyph g → Served.Glyph g (itself code) ≡ orElse code own other
+  own-first g e = rw e
 
-    pub unserved : mode .default ≡ false → Served.Refused r ≡ served s c mode code
-    unfolding served
-    unserved t = rw (← found-is, none, t)
+  pub else-other : (r : Refusal) (answer : Served) → own ≡ Found.Refused r → answer ≡ other → answer ≡ orElse code own other
+  else-other r answer e is = rw e is
+
+-- the two steps are the lookup
+pub served-in-steps : (s : List ℕ) (c : EncodingData) (mode : Mode) (code : ℕ) (own : Found) (answer other : Served)
+    → own ≡ glyphOf s c code → answer ≡ orElse code own other → other ≡ standIn s c mode → answer ≡ served s c mode code
+unfolding served
+served-in-steps s c mode code own answer other own-is is other-is = rw (← own-is, ← other-is) is
 
 module _ (s : List ℕ) (rec : Record) (mode : Mode) (code : ℕ) (fits : Bool) (fits-is : fits ≡ recordFits (length s) rec) where
   pub glyph-fits : (r : Served) → fits ≡ true → r ≡ served s (rec .codes) mode code → r ≡ getGlyph s rec mode code

@@ -5,7 +5,7 @@ use Prim.Native.Nat.{ℕ}
 use mathlib.Core.Bool.{Bool, true, false, cond}
 use mathlib.Core.List.{List, [], _∷_}
 use lib.IntN.{ℤ, pos}
-use Rattle.reads.specs.Said.{Said, says, refuses}
+use Rattle.reads.specs.Said.{Said, refusal, says, refuses}
 use Rattle.tables.specs.Fits.{tested}
 use Rattle.tables.specs.declared.EncodingData.{EncodingData}
 use Rattle.tables.specs.declared.Record.{Record}
@@ -28,18 +28,18 @@ abbrev pub suppliedBy : Supplier → Found → Served
 suppliedBy by (Found.Glyph g) = Served.Glyph g by
 suppliedBy by (Found.Refused r) = Served.Refused r
 
--- "the default code's glyph if that has one": looked up plainly
-unfoldable pub standIn : List ℕ → EncodingData → Served
-standIn s c = suppliedBy (theDefault c) (glyphOf s c (c .default))
+-- what shows a code without a glyph: "in default mode [...] the default code's glyph if that has one", which is looked up plainly
+unfoldable pub standIn : List ℕ → EncodingData → Mode → Served
+standIn s c mode = cond (mode .default) (suppliedBy (theDefault c) (glyphOf s c (c .default))) (Served.Refused (refusal 9 0))
 
--- "plain stays as it is; in default mode a code without a glyph takes the default code's"
-abbrev pub orDefault : List ℕ → EncodingData → Mode → ℕ → Found → Served
-orDefault s c mode code (Found.Glyph g) = Served.Glyph g (itself code)
-orDefault s c mode code (Found.Refused r) = cond (mode .default) (standIn s c) (Served.Refused r)
+-- "a code without a glyph takes" the other
+abbrev pub orElse : ℕ → Found → Served → Served
+orElse code (Found.Glyph g) other = Served.Glyph g (itself code)
+orElse code (Found.Refused r) other = other
 
 -- the glyph that shows a code in this mode, or 9
 unfoldable pub served : List ℕ → EncodingData → Mode → ℕ → Served
-served s c mode code = orDefault s c mode code (glyphOf s c code)
+served s c mode code = orElse code (glyphOf s c code) (standIn s c mode)
 
 -- `get_glyph`: 6, 9
 unfoldable pub getGlyph : List ℕ → Record → Mode → ℕ → Served

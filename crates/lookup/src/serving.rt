@@ -1,4 +1,6 @@
-// The glyph that shows a character, in the caller's mode.
+// The glyph that shows a character, in the caller's mode. A caller that does more with it asks in two steps, `glyph_of`
+// and then `or_stand_in` or `or_else`: each is small enough for the compiler to put into the caller, and a code with a
+// glyph, which is nearly every code, then costs what it does in the plain mode.
 use crate::Found;
 use crate::Served;
 use crate::Supplier;
@@ -10,32 +12,38 @@ use tables::EncodingData;
 use tables::Record;
 use tables::record_fits;
 ghost use mathlib.Core.Path.{_≡_};
-ghost use Rattle.lookup.specs.Served.{standIn, served, getGlyph};
+ghost use Rattle.lookup.specs.Served.{standIn, orElse, served, getGlyph};
 
-// The default code's own glyph, for a code that has none, or 9.
-fn stand_in(s: &[u8], codes: EncodingData) -> Served
-    ensures { λ r. ⌜ r ≡ standIn (now (s .entry)) codes ⌝ }
+// What shows a code without a glyph: in default mode the default code's own glyph; in the plain mode nothing does, 9.
+pub fn stand_in(s: &[u8], codes: EncodingData, mode: Mode) -> Served
+    ensures { λ r. ⌜ r ≡ standIn (now (s .entry)) codes mode ⌝ }
 {
-    let code = CharCode(codes.default as u32);
-    let found = glyph_of(s, codes, code);
-    match found {
-        Found::Glyph(g) => Served::Glyph(
-            g,
-            Supplier {
-                code,
-                is_default: true,
-            },
-        ),
-        Found::Refused(r) => Served::Refused(r),
+    if mode.default {
+        let code = CharCode(codes.default as u32);
+        let found = glyph_of(s, codes, code);
+        match found {
+            Found::Glyph(g) => Served::Glyph(
+                g,
+                Supplier {
+                    code,
+                    is_default: true,
+                },
+            ),
+            Found::Refused(r) => Served::Refused(r),
+        }
+    } else {
+        Served::Refused(Refusal {
+            number: 9,
+            place: 0,
+        })
     }
 }
 
-// The glyph that shows a character in this mode, by this table, or 9. Bytes past the end read as 0.
-pub fn serve(s: &[u8], codes: EncodingData, mode: Mode, code: CharCode) -> Served
-    ensures { λ r. ⌜ r ≡ served (now (s .entry)) codes mode (code .0) ⌝ }
+// A code's own glyph, or else the other, for a caller that asks for many codes and for what stands in once.
+pub fn or_else(code: CharCode, own: Found, other: Served) -> Served
+    ensures { λ r. ⌜ r ≡ orElse (code .0) own other ⌝ }
 {
-    let found = glyph_of(s, codes, code);
-    match found {
+    match own {
         Found::Glyph(g) => Served::Glyph(
             g,
             Supplier {
@@ -43,13 +51,32 @@ pub fn serve(s: &[u8], codes: EncodingData, mode: Mode, code: CharCode) -> Serve
                 is_default: false,
             },
         ),
-        Found::Refused(r) => {
-            if mode.default {
-                return stand_in(s, codes);
-            }
-            Served::Refused(r)
-        }
+        Found::Refused(_) => other,
     }
+}
+
+// A code's own glyph, or else what stands in.
+pub fn or_stand_in(s: &[u8], codes: EncodingData, mode: Mode, code: CharCode, own: Found) -> Served
+    ensures { λ r. ⌜ r ≡ orElse (code .0) own (standIn (now (s .entry)) codes mode) ⌝ }
+{
+    match own {
+        Found::Glyph(g) => Served::Glyph(
+            g,
+            Supplier {
+                code,
+                is_default: false,
+            },
+        ),
+        Found::Refused(_) => stand_in(s, codes, mode),
+    }
+}
+
+// The glyph that shows a character in this mode, by this table, or 9. Bytes past the end read as 0.
+pub fn serve(s: &[u8], codes: EncodingData, mode: Mode, code: CharCode) -> Served
+    ensures { λ r. ⌜ r ≡ served (now (s .entry)) codes mode (code .0) ⌝ }
+{
+    let own = glyph_of(s, codes, code);
+    or_stand_in(s, codes, mode, code, own)
 }
 
 // The glyph that shows a character code, the code that supplied it, and whether that is the font's default code,

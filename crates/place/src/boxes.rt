@@ -8,7 +8,8 @@ use crate::bounds::is_natural;
 use crate::bounds::natural_i16;
 use crate::bounds::natural_i32;
 use lookup::Served;
-use lookup::serve;
+use lookup::glyph_of;
+use lookup::or_stand_in;
 use metrics::Measured;
 use metrics::metrics_of;
 use modes::Mode;
@@ -87,7 +88,8 @@ pub fn info_of(s: &[u8], metrics: MetricsData, bounds: MetricsUnpacked, g: Glyph
 pub fn char_info(s: &[u8], rec: Record, mode: Mode, code: CharCode) -> CharPrepared
     ensures { λ r. ⌜ r ≡ prepared (now (s .entry)) rec mode (code .0) ⌝ }
 {
-    let served = serve(s, rec.codes, mode, code);
+    let own = glyph_of(s, rec.codes, code);
+    let served = or_stand_in(s, rec.codes, mode, code, own);
     match served {
         Served::Glyph(g, by) => {
             let info = info_of(s, rec.metrics, rec.accel.maxbounds, g);

@@ -10,6 +10,7 @@ use Rattle.tables.specs.Fits.{ladder, permitted}
 use Rattle.tables.specs.declared.BitmapData.{BitmapData}
 use Rattle.tables.specs.declared.Permit.{Permit}
 use Rattle.tables.specs.declared.Record.{Record}
+use Rattle.modes.specs.declared.Mode.{Mode}
 use Rattle.lookup.specs.Lookup.{glyphOf}
 use Rattle.lookup.specs.declared.Found.{Found}
 use Rattle.bitmaps.specs.Place.{Place, placeAt}
@@ -60,7 +61,7 @@ glyph-drawn-refusals s b i len at =
 
 -- a text's characters
 
-module _ (s : List ℕ) (rec : Record) (lay : Layout) (len : ℕ) where
+module _ (s : List ℕ) (rec : Record) (mode : Mode) (lay : Layout) (len : ℕ) where
   abbrev saidPlaced : Placed → Said
   saidPlaced p = saidDrawn (placedDrawn s rec lay len p)
 
@@ -69,7 +70,7 @@ module _ (s : List ℕ) (rec : Record) (lay : Layout) (len : ℕ) where
   place-info pen (Prepared.Info i) h = wider refl (glyph-drawn-refusals s (rec .bitmaps) i len _)
   place-info pen (Prepared.Refused r) h = has-number (wider {ms = ofPlacing ++ ofDrawing} refl h .is)
 
-  placed-refusals : (code : ℕ) (pen : Pen) → NumberedBy (ofPlacing ++ ofDrawing) (saidPlaced (placed s rec lay code pen))
+  placed-refusals : (code : ℕ) (pen : Pen) → NumberedBy (ofPlacing ++ ofDrawing) (saidPlaced (placed s rec mode lay code pen))
   unfolding placed placedDrawn
   placed-refusals code pen =
       whichever saidPlaced (eqb code 13) has-values (whichever saidPlaced (eqb code 10) has-values (by (glyphOf s (rec .codes) code))) where
@@ -82,12 +83,12 @@ module _ (s : List ℕ) (rec : Record) (lay : Layout) (len : ℕ) where
   after-char (Drawn.Rows r) byte rest h k = k (r .dropped)
   after-char (Drawn.Refused r) byte rest h k = has-number (h .is)
 
-  text-refusals : (cs : List Char) (pen : Pen) (dropped : ℕ) → NumberedBy (ofPlacing ++ ofDrawing) (saidText (textFrom s rec lay len cs pen dropped))
+  text-refusals : (cs : List Char) (pen : Pen) (dropped : ℕ) → NumberedBy (ofPlacing ++ ofDrawing) (saidText (textFrom s rec mode lay len cs pen dropped))
   unfolding textFrom
   text-refusals [] pen dropped = has-values
   text-refusals (c ∷ cs) pen dropped =
-      let p = placed s rec lay (c .code) pen in
-      after-char (placedDrawn s rec lay len p) (c .byte) (λ n. textFrom s rec lay len cs (penAfter lay p pen) (dropped + n))
+      let p = placed s rec mode lay (c .code) pen in
+      after-char (placedDrawn s rec lay len p) (c .byte) (λ n. textFrom s rec mode lay len cs (penAfter lay p pen) (dropped + n))
       (placed-refusals (c .code) pen) (λ n. text-refusals cs (penAfter lay p pen) (dropped + n))
 
 -- the calls
@@ -110,7 +111,7 @@ module _ (s : List ℕ) (rec : Record) where
       abbrev saidGlyph : Permit → Said
       saidGlyph x = saidDrawn (permitted Drawn.Refused x (glyphDrawn s (rec .bitmaps) i len at))
 
-      pub draw-glyph-refusals : Refusals s rec (6 ∷ 15 ∷ ofDrawing) (saidDrawn (drawGlyph s rec i len at))
+      pub draw-glyph-refusals : Refusals s rec (6 ∷ 15 ∷ ofDrawing) (saidDrawn (drawGlyph s rec mode i len at))
       unfolding drawGlyph glyphReady ladder
       draw-glyph-refusals =
           guarded-refusals s rec saidGlyph Permit.Refused (λ r. refl) (okPlace at && okInfo i) Permit.Given refl
@@ -131,7 +132,7 @@ module _ (s : List ℕ) (rec : Record) where
           (whichever saidUnpacked (rowsShort s b g (i .width) (i .height)) (has-number refl)
           (whichever saidUnpacked (pixelPast s b g (i .width) (wholeColumns (i .width)) at (i .height) len) (has-number refl) has-values)))
 
-      pub unpack-glyph-refusals : Refusals s rec (6 ∷ 15 ∷ ofDrawing) (saidUnpacked (unpackGlyph s rec i len start stride))
+      pub unpack-glyph-refusals : Refusals s rec (6 ∷ 15 ∷ ofDrawing) (saidUnpacked (unpackGlyph s rec mode i len start stride))
       unfolding unpackGlyph glyphReady ladder
       unpack-glyph-refusals =
           guarded-refusals s rec saidUnpack Permit.Refused (λ r. refl) (okPlace (unscaled start stride) && okInfo i) Permit.Given refl
@@ -149,7 +150,7 @@ module _ (s : List ℕ) (rec : Record) where
     placed-char (Prepared.Info i) h = drawn-char i (glyphDrawn s (rec .bitmaps) i len at) (glyph-drawn-refusals s (rec .bitmaps) i len at)
     placed-char (Prepared.Refused r) h = wider refl h
 
-    pub draw-char-refusals : Refusals s rec (6 ∷ 15 ∷ 9 ∷ (ofPlacing ++ ofDrawing)) (saidChar (drawChar s rec code len at))
+    pub draw-char-refusals : Refusals s rec (6 ∷ 15 ∷ 9 ∷ (ofPlacing ++ ofDrawing)) (saidChar (drawChar s rec mode code len at))
     unfolding drawChar charReady
     draw-char-refusals =
         guarded-refusals s rec saidWith Prepared.Refused (λ r. refl) (okPlace at) (preparedIn s rec code) refl
@@ -158,14 +159,14 @@ module _ (s : List ℕ) (rec : Record) where
   module _ (text : List ℕ) (len : ℕ) (lay : Layout) where
     -- what the tests before the first character say, with the rest
     abbrev saidReady : Ready → Said
-    saidReady x = saidText (whenReady x (textFrom s rec lay len (charsOf (decoded text)) origin 0))
+    saidReady x = saidText (whenReady x (textFrom s rec mode lay len (charsOf (decoded text)) origin 0))
 
     checked-refusals : (a : Checked) → checkedText text ≡ a → NumberedBy (19 ∷ 11 ∷ (ofPlacing ++ ofDrawing)) (saidReady (readyText rec lay a))
     checked-refusals Checked.Whole e =
-        whichever saidReady (boundsHold (boundsOf rec)) (wider refl (text-refusals s rec lay len (charsOf (decoded text)) origin 0)) (has-number refl)
+        whichever saidReady (boundsHold (boundsOf rec)) (wider refl (text-refusals s rec mode lay len (charsOf (decoded text)) origin 0)) (has-number refl)
     checked-refusals (Checked.Refused r) e = has-number (rw (refused-text text r e .0) refl)
 
-    pub draw-string-refusals : Refusals s rec (6 ∷ 15 ∷ 19 ∷ 11 ∷ (ofPlacing ++ ofDrawing)) (saidText (drawString s rec text len lay))
+    pub draw-string-refusals : Refusals s rec (6 ∷ 15 ∷ 19 ∷ 11 ∷ (ofPlacing ++ ofDrawing)) (saidText (drawString s rec mode text len lay))
     unfolding drawString ready
     draw-string-refusals =
         guarded-refusals s rec saidReady Ready.Refused (λ r. refl) (okPlace (placeAt (lay .start) (lay .stride) (lay .scale)))

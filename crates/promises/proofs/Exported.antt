@@ -9,6 +9,7 @@ use Rattle.reads.specs.Said.{refusal, refuses}
 use Rattle.reads.proofs.Numbers.{nought-answers}
 use Rattle.tables.specs.Fits.{guarded}
 use Rattle.tables.specs.declared.Record.{Record}
+use Rattle.modes.specs.declared.Mode.{Mode}
 use Rattle.load.specs.Load.{loaded, loadedStrictly, saidLoaded}
 use Rattle.load.specs.declared.Loaded.{Loaded}
 use Rattle.vet.specs.Vet.{vetted, saidVetted}
@@ -188,30 +189,30 @@ pub draw-bitmap-says : (s : List ℕ) (rec : Record) (glyph width height len : �
 draw-bitmap-says s rec glyph width height len at =
     rows-read (drawBitmap s rec glyph width height len at) (nought-answers refl (draw-bitmap-refusals s rec glyph width height len at .numbered))
 
-pub draw-glyph-says : (s : List ℕ) (rec : Record) (info : GlyphInfo) (len : ℕ) (at : Place)
-    → let d = drawGlyph s rec info len at in saysRows (rowsAnswer d) ≡ saidDrawn d
+pub draw-glyph-says : (s : List ℕ) (rec : Record) (mode : Mode) (info : GlyphInfo) (len : ℕ) (at : Place)
+    → let d = drawGlyph s rec mode info len at in saysRows (rowsAnswer d) ≡ saidDrawn d
 draw-glyph-says s rec info len at =
-    rows-read (drawGlyph s rec info len at) (nought-answers refl (draw-glyph-refusals s rec info len at .numbered))
+    rows-read (drawGlyph s rec mode info len at) (nought-answers refl (draw-glyph-refusals s rec mode info len at .numbered))
 
-pub draw-char-says : (s : List ℕ) (rec : Record) (code len : ℕ) (at : Place)
-    → let d = drawChar s rec code len at in saysChar (charAnswer d) ≡ saidChar d
+pub draw-char-says : (s : List ℕ) (rec : Record) (mode : Mode) (code len : ℕ) (at : Place)
+    → let d = drawChar s rec mode code len at in saysChar (charAnswer d) ≡ saidChar d
 draw-char-says s rec code len at =
-    char-read (drawChar s rec code len at) (nought-answers refl (draw-char-refusals s rec code len at .numbered))
+    char-read (drawChar s rec mode code len at) (nought-answers refl (draw-char-refusals s rec mode code len at .numbered))
 
-pub why-says : (s : List ℕ) (rec : Record) (code len : ℕ) (at : Place)
-    → let t = whyOf s rec code len at in saysWhy (whyAnswer t) ≡ saidTold t
-why-says s rec code len at = why-read (whyOf s rec code len at) (nought-answers refl (why-refusals s rec code len at .numbered))
+pub why-says : (s : List ℕ) (rec : Record) (mode : Mode) (code len : ℕ) (at : Place)
+    → let t = whyOf s rec mode code len at in saysWhy (whyAnswer t) ≡ saidTold t
+why-says s rec code len at = why-read (whyOf s rec mode code len at) (nought-answers refl (why-refusals s rec mode code len at .numbered))
 
-pub unpack-glyph-says : (s : List ℕ) (rec : Record) (info : GlyphInfo) (len start stride : ℕ)
-    → let u = unpackGlyph s rec info len start stride in saysUnpack (unpackAnswer u) ≡ saidUnpacked u
+pub unpack-glyph-says : (s : List ℕ) (rec : Record) (mode : Mode) (info : GlyphInfo) (len start stride : ℕ)
+    → let u = unpackGlyph s rec mode info len start stride in saysUnpack (unpackAnswer u) ≡ saidUnpacked u
 unpack-glyph-says s rec info len start stride =
-    unpack-read (unpackGlyph s rec info len start stride) (nought-answers refl (unpack-glyph-refusals s rec info len start stride .numbered))
+    unpack-read (unpackGlyph s rec mode info len start stride) (nought-answers refl (unpack-glyph-refusals s rec mode info len start stride .numbered))
 
 -- of the drawing and of its dry run, which answer the same
-pub draw-string-says : (s : List ℕ) (rec : Record) (text : List ℕ) (len : ℕ) (lay : Layout)
-    → let d = drawString s rec text len lay in saysText (textAnswer d) ≡ saidText d
+pub draw-string-says : (s : List ℕ) (rec : Record) (mode : Mode) (text : List ℕ) (len : ℕ) (lay : Layout)
+    → let d = drawString s rec mode text len lay in saysText (textAnswer d) ≡ saidText d
 draw-string-says s rec text len lay =
-    text-read (drawString s rec text len lay) (nought-answers refl (draw-string-refusals s rec text len lay .numbered))
+    text-read (drawString s rec mode text len lay) (nought-answers refl (draw-string-refusals s rec mode text len lay .numbered))
 
 pub utf8-step-says : (text : List ℕ) (i : ℕ) → saysStep (stepAnswer (stepAt text i)) ≡ saidStep (stepAt text i)
 utf8-step-says text i = step-read (stepAt text i) (nought-answers refl (step-at-refusals text i))

@@ -17,12 +17,14 @@ mod SharedPlaces
 mod Coloured
 mod ByRule
 mod Drawing
+mod Serving
 mod PassedChars
 mod TextGlyphs
 mod DrawnText
 mod TextHeight
 mod Texts
 mod TextKeeps
+mod ServedTexts
 mod GivenF
 mod WhyCodes
 mod WhyFirst

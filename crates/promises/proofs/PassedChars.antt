@@ -10,8 +10,9 @@ use Rattle.reads.specs.declared.GlyphIndex.{GlyphIndex}
 use Rattle.reads.proofs.Tests.{either}
 use Rattle.tables.specs.declared.BitmapData.{BitmapData}
 use Rattle.tables.specs.declared.Record.{Record}
-use Rattle.lookup.specs.Lookup.{glyphOf}
-use Rattle.lookup.specs.declared.Found.{Found}
+use Rattle.modes.specs.declared.Mode.{Mode}
+use Rattle.lookup.specs.Served.{served}
+use Rattle.lookup.specs.declared.Served.{Served}
 use Rattle.metrics.specs.Measure.{glyphMetrics}
 use Rattle.bitmaps.specs.Cut.{drawnRows}
 use Rattle.bitmaps.specs.Picture.{rowsShort, pixelPast}
@@ -32,6 +33,7 @@ use Rattle.text.specs.Walk.{wrapped, placeInfo, placeFound, placed, spot, drawn
 use Rattle.text.specs.declared.Layout.{Layout}
 use Rattle.text.specs.declared.Pen.{Pen}
 use Rattle.text.specs.declared.Placed.{Placed}
+use Rattle.promises.proofs.Serving.{supplied}
 
 -- fewer rows lie in the data where more do
 fewer-rows : (s : List ℕ) (b : BitmapData) (g width n height : ℕ) → n ≤ height → rowsShort s b g width height ≡ false → rowsShort s b g width n ≡ false
@@ -75,12 +77,13 @@ module _ (s : List ℕ) (rec : Record) (lay : Layout) (len : ℕ) where
         let i = boxOf g (glyphMetrics s (rec .metrics) (g .0)) (boundsOf rec .ascent) in
         subst (λ (q : Prepared). Only16 (placeInfo rec lay pen q)) (sym (usable-info s rec g u)) (usable-drawn (wrapped rec lay i pen) g u)
 
-    found-only : (code : ℕ) (pen : Pen) (x : Found) → glyphOf s (rec .codes) code ≡ x → Only16 (placeFound s rec lay pen x)
-    found-only code pen (Found.Glyph g) e = glyph-only pen g (passed-usable s rec passed code g e)
-    found-only code pen (Found.Refused r) e = tt
+    -- the glyph that shows a character is that of a code, its own or the default one
+    served-only : (mode : Mode) (code : ℕ) (pen : Pen) (x : Served) → served s (rec .codes) mode code ≡ x → Only16 (placeFound s rec lay pen x)
+    served-only mode code pen (Served.Glyph g by) e = glyph-only pen g (passed-usable s rec passed (by .code .0) g (supplied s rec mode code g by e))
+    served-only mode code pen (Served.Refused r) e = tt
 
     -- so is every character
-    pub placed-only : (code : ℕ) (pen : Pen) → Only16 (placed s rec lay code pen)
+    pub placed-only : (mode : Mode) (code : ℕ) (pen : Pen) → Only16 (placed s rec mode lay code pen)
     unfolding placed
-    placed-only code pen =
-        either Only16 (eqb code 13) tt (either Only16 (eqb code 10) tt (found-only code pen (glyphOf s (rec .codes) code) refl))
+    placed-only mode code pen =
+        either Only16 (eqb code 13) tt (either Only16 (eqb code 10) tt (served-only mode code pen (served s (rec .codes) mode code) refl))

@@ -7,6 +7,7 @@ use mathlib.Core.Logic.{_↔_, inl, inr, ⊎-elim}
 use native.Mathlib.Omega.{arith}
 use Rattle.reads.proofs.Tests.{never, split, or-first, or-second, or-cases}
 use Rattle.tables.specs.declared.Record.{Record}
+use Rattle.modes.specs.declared.Mode.{Mode}
 use Rattle.bitmaps.specs.Picture.{glyphBit}
 use Rattle.glyphs.specs.Glyph.{inInfo}
 use Rattle.vet.specs.Vet.{vetted}
@@ -71,14 +72,14 @@ module _ (s : List ℕ) (rec : Record) (lay : Layout) (len : ℕ) where
         (λ e. rw e (told-glyph x (after next) (end next) before (none-past x e) (rest next dropped) (told next dropped))))
     told-char pen before (Placed.Refused n) only = absurd only
 
-  module _ (passed : vetted s ≡ Vetted.Passed rec) where
+  module _ (passed : vetted s ≡ Vetted.Passed rec) (mode : Mode) where
     pub told-text : (cs : List Char) (pen : Pen) (before : ℕ)
-        → Told (textFrom s rec lay len cs pen before) (spotsFrom s rec lay cs pen) (endFrom s rec lay cs pen) before
+        → Told (textFrom s rec mode lay len cs pen before) (spotsFrom s rec mode lay cs pen) (endFrom s rec mode lay cs pen) before
     unfolding textFrom spotsFrom endFrom
     told-text [] pen before = (λ none. none, refl, omega arith)
     told-text (c ∷ cs) pen before =
-        told-char (c .byte) (textFrom s rec lay len cs) (spotsFrom s rec lay cs) (endFrom s rec lay cs) (told-text cs) pen before
-        (placed s rec lay (c .code) pen) (placed-only s rec lay len passed (c .code) pen)
+        told-char (c .byte) (textFrom s rec mode lay len cs) (spotsFrom s rec mode lay cs) (endFrom s rec mode lay cs) (told-text cs) pen before
+        (placed s rec mode lay (c .code) pen) (placed-only s rec lay len passed mode (c .code) pen)
 
   -- ---- the pixels, where every glyph has room
 
@@ -106,12 +107,12 @@ module _ (s : List ℕ) (rec : Record) (lay : Layout) (len : ℕ) where
         ))
     inked-char byte (Placed.Refused n) only more xs same room = absurd only
 
-    module _ (passed : vetted s ≡ Vetted.Passed rec) where
-      pub inked-text : (cs : List Char) (pen : Pen) → (Some IsBeyond (spotsFrom s rec lay cs pen) → ⊥)
-          → (inText s rec lay len cs pen k ≡ true) ↔ Some IsInked (spotsFrom s rec lay cs pen)
+    module _ (passed : vetted s ≡ Vetted.Passed rec) (mode : Mode) where
+      pub inked-text : (cs : List Char) (pen : Pen) → (Some IsBeyond (spotsFrom s rec mode lay cs pen) → ⊥)
+          → (inText s rec mode lay len cs pen k ≡ true) ↔ Some IsInked (spotsFrom s rec mode lay cs pen)
       unfolding inText spotsFrom
       inked-text [] pen room = (never, λ none. absurd none)
       inked-text (c ∷ cs) pen room =
-          let p = placed s rec lay (c .code) pen in
+          let p = placed s rec mode lay (c .code) pen in
           let q = penAfter lay p pen in
-          inked-char (c .byte) p (placed-only s rec lay len passed (c .code) pen) (inText s rec lay len cs q k) (spotsFrom s rec lay cs q) (inked-text cs q) room
+          inked-char (c .byte) p (placed-only s rec lay len passed mode (c .code) pen) (inText s rec mode lay len cs q k) (spotsFrom s rec mode lay cs q) (inked-text cs q) room

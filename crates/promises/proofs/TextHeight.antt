@@ -7,6 +7,7 @@ use native.Mathlib.Numerals.{add-one}
 use native.Mathlib.Omega.{arith}
 use lib.ListN.{length}
 use Rattle.tables.specs.declared.Record.{Record}
+use Rattle.modes.specs.declared.Mode.{Mode}
 use Rattle.utf8.specs.Step.{stepAt}
 use Rattle.utf8.specs.Decode.{Char, Decoded, chars, refused, consChar, afterStep, decodeFrom, decoded, charsOf}
 use Rattle.utf8.specs.declared.Step.{Step}
@@ -23,7 +24,7 @@ use Rattle.text.proofs.PenBounds.{placed-lower}
 use Rattle.promises.specs.Texts.{endFrom, endOf}
 use Rattle.promises.proofs.DrawnText.{of-rows, was-ready}
 
-module _ (s : List ℕ) (rec : Record) (lay : Layout) where
+module _ (s : List ℕ) (rec : Record) (mode : Mode) (lay : Layout) where
   abbrev line : ℕ
   line = lineHeight rec (lay .scale)
 
@@ -33,14 +34,14 @@ module _ (s : List ℕ) (rec : Record) (lay : Layout) where
   placed-y pen (Placed.Glyph q i) = refl
   placed-y pen (Placed.Refused n) = refl
 
-  char-lowers : (code : ℕ) (pen : Pen) → penAfter lay (placed s rec lay code pen) pen .y ≤ pen .y + line
-  char-lowers code pen = rw (placed-y pen (placed s rec lay code pen)) (placed-lower s rec lay pen code .y-most)
+  char-lowers : (code : ℕ) (pen : Pen) → penAfter lay (placed s rec mode lay code pen) pen .y ≤ pen .y + line
+  char-lowers code pen = rw (placed-y pen (placed s rec mode lay code pen)) (placed-lower s rec mode lay pen code .y-most)
 
-  text-lowers : (cs : List Char) (pen : Pen) → endFrom s rec lay cs pen .y ≤ pen .y + line * length cs
+  text-lowers : (cs : List Char) (pen : Pen) → endFrom s rec mode lay cs pen .y ≤ pen .y + line * length cs
   unfolding endFrom
   text-lowers [] pen = omega arith
   text-lowers (c ∷ cs) pen =
-      let q = penAfter lay (placed s rec lay (c .code) pen) pen in
+      let q = penAfter lay (placed s rec mode lay (c .code) pen) pen in
       omega (arith, char-lowers (c .code) pen, text-lowers cs q, mul-suc line (length cs))
 
 module _ (text : List ℕ) where
@@ -69,34 +70,34 @@ module _ (text : List ℕ) where
   few-chars = omega (arith, few-from (suc (length text)) 0 (omega arith))
 
   -- "The height never exceeds the line height times one more than the text's bytes"
-  pub height-within : (s : List ℕ) (rec : Record) (lay : Layout)
-      → endOf s rec lay text .y + lineHeight rec (lay .scale) ≤ lineHeight rec (lay .scale) * (length text + 1)
-  height-within s rec lay =
+  pub height-within : (s : List ℕ) (rec : Record) (mode : Mode) (lay : Layout)
+      → endOf s rec mode lay text .y + lineHeight rec (lay .scale) ≤ lineHeight rec (lay .scale) * (length text + 1)
+  height-within s rec mode lay =
       let line = lineHeight rec (lay .scale) in
       let cs = charsOf (decoded text) in
-      let lowered = text-lowers s rec lay cs origin in
+      let lowered = text-lowers s rec mode lay cs origin in
       let most = mul-le-mul-left line few-chars in
       let one-more = mul-suc line (length text) in
       rw add-one (omega (arith, lowered, most, one-more))
 
 -- ---- the height of a text that was drawn
 
-module _ (s : List ℕ) (rec : Record) (lay : Layout) (len : ℕ) where
-  drawn-height : (cs : List Char) (pen : Pen) (before : ℕ) (t : TextRows) → textFrom s rec lay len cs pen before ≡ TextDrawn.Done t
-      → t .height ≡ endFrom s rec lay cs pen .y + lineHeight rec (lay .scale)
+module _ (s : List ℕ) (rec : Record) (mode : Mode) (lay : Layout) (len : ℕ) where
+  drawn-height : (cs : List Char) (pen : Pen) (before : ℕ) (t : TextRows) → textFrom s rec mode lay len cs pen before ≡ TextDrawn.Done t
+      → t .height ≡ endFrom s rec mode lay cs pen .y + lineHeight rec (lay .scale)
   unfolding textFrom endFrom
   drawn-height [] pen before t e = let is : pen .y + lineHeight rec (lay .scale) ≡ t .height = cc in sym is
   drawn-height (c ∷ cs) pen before t e =
-      let p = placed s rec lay (c .code) pen in
+      let p = placed s rec mode lay (c .code) pen in
       let q = penAfter lay p pen in
-      let (r, drawn, rest) = of-rows (placedDrawn s rec lay len p) (c .byte) (λ more. textFrom s rec lay len cs q (before + more)) t e in
+      let (r, drawn, rest) = of-rows (placedDrawn s rec lay len p) (c .byte) (λ more. textFrom s rec mode lay len cs q (before + more)) t e in
       drawn-height cs q (before + r .dropped) t rest
 
   -- with any font, text and layout
-  pub height-most : (text : List ℕ) (t : TextRows) → drawString s rec text len lay ≡ TextDrawn.Done t
+  pub height-most : (text : List ℕ) (t : TextRows) → drawString s rec mode text len lay ≡ TextDrawn.Done t
       → t .height ≤ lineHeight rec (lay .scale) * (length text + 1)
   unfolding drawString
   height-most text t e =
       let cs = charsOf (decoded text) in
-      let is = drawn-height cs origin 0 t (was-ready (ready s rec text lay) (textFrom s rec lay len cs origin 0) t e) in
-      rw is (height-within text s rec lay)
+      let is = drawn-height cs origin 0 t (was-ready (ready s rec text lay) (textFrom s rec mode lay len cs origin 0) t e) in
+      rw is (height-within text s rec mode lay)

@@ -9,6 +9,7 @@ use lib.ListN.{length}
 use borrow.Author.Tests.{eqb-true, eq-eqb, leb-true, leb-false}
 use Rattle.reads.proofs.Tests.{never, split, or-first, or-second, or-cases}
 use Rattle.tables.specs.declared.Record.{Record}
+use Rattle.modes.specs.declared.Mode.{Mode}
 use Rattle.bitmaps.specs.Paint.{painted}
 use Rattle.bitmaps.specs.Picture.{noBitmap, glyphBit}
 use Rattle.bitmaps.specs.declared.Drawn.{Drawn}
@@ -32,7 +33,7 @@ use Rattle.promises.proofs.ByRule.{by-length}
 use Rattle.promises.proofs.Coloured.{lit-dot, found-dot}
 use Rattle.promises.proofs.Drawing.{nothing-inside, glyph-inside, allGlyph, glyph-whole}
 
-module _ (s : List ℕ) (rec : Record) (text : List ℕ) (lay : Layout) where
+module _ (s : List ℕ) (rec : Record) (mode : Mode) (text : List ℕ) (lay : Layout) where
   -- the pixels of what was placed, and of characters, where no row is cut: the buffer's length does not occur
   abbrev inWhole : Placed → ℕ → Bool
   inWhole (Placed.Skip pen) k = false
@@ -43,7 +44,7 @@ module _ (s : List ℕ) (rec : Record) (text : List ℕ) (lay : Layout) where
 
   unfoldable wholeFrom : List Char → Pen → ℕ → Bool
   wholeFrom [] pen k = false
-  wholeFrom (c ∷ cs) pen k = let p = placed s rec lay (c .code) pen in inWhole p k || wholeFrom cs (penAfter lay p pen) k
+  wholeFrom (c ∷ cs) pen k = let p = placed s rec mode lay (c .code) pen in inWhole p k || wholeFrom cs (penAfter lay p pen) k
 
   module _ (len : ℕ) where
     -- ---- one glyph that was drawn
@@ -55,7 +56,7 @@ module _ (s : List ℕ) (rec : Record) (text : List ℕ) (lay : Layout) where
       abbrev inGlyph : ℕ → Bool
       inGlyph n = inInfo s (rec .bitmaps) i (spot lay pen) n k
 
-      inked-glyph : drawnFrom s rec lay len pen i ≡ Drawn.Rows r → (inGlyph (r .drawn) ≡ true) ↔ InkedAny s rec text lay len k x
+      inked-glyph : drawnFrom s rec lay len pen i ≡ Drawn.Rows r → (inGlyph (r .drawn) ≡ true) ↔ InkedAny s rec mode text lay len k x
       unfolding glyphDrawn
       inked-glyph e =
           let b = rec .bitmaps in
@@ -86,11 +87,11 @@ module _ (s : List ℕ) (rec : Record) (text : List ℕ) (lay : Layout) where
     record Walked (rule all : ℕ → Bool) (xs : List Spot) (before dropped : ℕ) : Type 0 where
       more : before ≤ dropped
       inside : (k : ℕ) → len ≤ k → rule k ≡ false
-      inked : (k : ℕ) → (rule k ≡ true) ↔ Some (InkedAny s rec text lay len k) xs
+      inked : (k : ℕ) → (rule k ≡ true) ↔ Some (InkedAny s rec mode text lay len k) xs
       whole : dropped ≡ 0 → (k : ℕ) → rule k ≡ all k
 
-    either-inked : (k : ℕ) (x : Spot) (xs : List Spot) (a b : Bool) → (a ≡ true) ↔ InkedAny s rec text lay len k x
-        → (b ≡ true) ↔ Some (InkedAny s rec text lay len k) xs → (a || b ≡ true) ↔ Some (InkedAny s rec text lay len k) (x ∷ xs)
+    either-inked : (k : ℕ) (x : Spot) (xs : List Spot) (a b : Bool) → (a ≡ true) ↔ InkedAny s rec mode text lay len k x
+        → (b ≡ true) ↔ Some (InkedAny s rec mode text lay len k) xs → (a || b ≡ true) ↔ Some (InkedAny s rec mode text lay len k) (x ∷ xs)
     either-inked k x xs a b (to, from) (to-rest, from-rest) = (
       λ t. ⊎-elim (λ d. inl (to d)) (λ d. inr (to-rest d)) (or-cases a b t),
       ⊎-elim (λ d. or-first a b (from d)) (λ d. or-second a b (from-rest d)),
@@ -112,17 +113,17 @@ module _ (s : List ℕ) (rec : Record) (text : List ℕ) (lay : Layout) where
           })
       walked-char (Placed.Refused n) r e w = let z : _≡_ {A = ℕ} 0 1 = cc in absurd (omega arith)
 
-    walked-text : (cs : List Char) (pen : Pen) (before : ℕ) (t : TextRows) → textFrom s rec lay len cs pen before ≡ TextDrawn.Done t
-        → Walked (inText s rec lay len cs pen) (wholeFrom cs pen) (spotsFrom s rec lay cs pen) before (t .dropped)
+    walked-text : (cs : List Char) (pen : Pen) (before : ℕ) (t : TextRows) → textFrom s rec mode lay len cs pen before ≡ TextDrawn.Done t
+        → Walked (inText s rec mode lay len cs pen) (wholeFrom cs pen) (spotsFrom s rec mode lay cs pen) before (t .dropped)
     unfolding textFrom inText wholeFrom spotsFrom
     walked-text [] pen before t e =
         let is : before ≡ t .dropped = cc in
         record { more = omega (arith, is); inside = λ k h. refl; inked = λ k. (never, λ none. absurd none); whole = λ none k. refl }
     walked-text (c ∷ cs) pen before t e =
-        let p = placed s rec lay (c .code) pen in
+        let p = placed s rec mode lay (c .code) pen in
         let q = penAfter lay p pen in
-        let (r, drawn, rest) = of-rows (placedDrawn s rec lay len p) (c .byte) (λ more. textFrom s rec lay len cs q (before + more)) t e in
-        walked-char (c .byte) (inText s rec lay len cs q) (wholeFrom cs q) (spotsFrom s rec lay cs q) before (t .dropped) p r drawn
+        let (r, drawn, rest) = of-rows (placedDrawn s rec lay len p) (c .byte) (λ more. textFrom s rec mode lay len cs q (before + more)) t e in
+        walked-char (c .byte) (inText s rec mode lay len cs q) (wholeFrom cs q) (spotsFrom s rec mode lay cs q) before (t .dropped) p r drawn
         (walked-text cs q (before + r .dropped) t rest)
 
   -- ---- draw_string
@@ -131,18 +132,18 @@ module _ (s : List ℕ) (rec : Record) (text : List ℕ) (lay : Layout) where
   cs = charsOf (decoded text)
 
   abbrev answer : ℕ → TextDrawn
-  answer len = drawString s rec text len lay
+  answer len = drawString s rec mode text len lay
 
   walked-whole : (len : ℕ) (t : TextRows) → answer len ≡ TextDrawn.Done t
-      → Walked len (inText s rec lay len cs origin) (wholeFrom cs origin) (spotsOf s rec lay text) 0 (t .dropped)
+      → Walked len (inText s rec mode lay len cs origin) (wholeFrom cs origin) (spotsOf s rec mode lay text) 0 (t .dropped)
   unfolding drawString
-  walked-whole len t e = walked-text len cs origin 0 t (was-ready (ready s rec text lay) (textFrom s rec lay len cs origin 0) t e)
+  walked-whole len t e = walked-text len cs origin 0 t (was-ready (ready s rec text lay) (textFrom s rec mode lay len cs origin 0) t e)
 
   abbrev ruleOf : ℕ → TextDrawn → ℕ → Bool
-  ruleOf len (TextDrawn.Done t) k = inText s rec lay len cs origin k
+  ruleOf len (TextDrawn.Done t) k = inText s rec mode lay len cs origin k
   ruleOf len (TextDrawn.Refused r) k = false
 
-  string-is : (colour : ℕ) (old : List ℕ) (a : TextDrawn) → stringLeaves s rec text lay colour a old ≡ painted (ruleOf (length old) a) colour old
+  string-is : (colour : ℕ) (old : List ℕ) (a : TextDrawn) → stringLeaves s rec mode text lay colour a old ≡ painted (ruleOf (length old) a) colour old
   string-is colour old (TextDrawn.Done t) = refl
   string-is colour old (TextDrawn.Refused r) = sym (painted-none (λ k. false) colour old (λ k h. refl))
 
@@ -150,11 +151,11 @@ module _ (s : List ℕ) (rec : Record) (text : List ℕ) (lay : Layout) where
   string-none len (TextDrawn.Done t) e k = absurd (e refl)
   string-none len (TextDrawn.Refused r) e k = refl
 
-  string-lit : (len : ℕ) (a : TextDrawn) → answer len ≡ a → (k : ℕ) → textColoured s rec text lay len a k → ruleOf len a k ≡ true
+  string-lit : (len : ℕ) (a : TextDrawn) → answer len ≡ a → (k : ℕ) → textColoured s rec mode text lay len a k → ruleOf len a k ≡ true
   string-lit len (TextDrawn.Done t) e k l = walked-whole len t e .inked k .1 l
   string-lit len (TextDrawn.Refused r) e k l = absurd l
 
-  string-found : (len : ℕ) (a : TextDrawn) → answer len ≡ a → (k : ℕ) → ruleOf len a k ≡ true → textColoured s rec text lay len a k
+  string-found : (len : ℕ) (a : TextDrawn) → answer len ≡ a → (k : ℕ) → ruleOf len a k ≡ true → textColoured s rec mode text lay len a k
   string-found len (TextDrawn.Done t) e k l = walked-whole len t e .inked k .0 l
   string-found len (TextDrawn.Refused r) e k l = never l
 
@@ -166,9 +167,9 @@ module _ (s : List ℕ) (rec : Record) (text : List ℕ) (lay : Layout) where
   string-whole len (TextDrawn.Done t) e all k = walked-whole len t e .whole (eqb-true (t .dropped) 0 all) k
   string-whole len (TextDrawn.Refused r) e all k = never all
 
-  pub string-keeps : (colour : ℕ) → Keeps (stringCall s rec text lay colour)
+  pub string-keeps : (colour : ℕ) → Keeps (stringCall s rec mode text lay colour)
   string-keeps colour =
-      by-length (stringCall s rec text lay colour) (λ len. ruleOf len (answer len)) (λ old. string-is colour old (answer (length old)))
+      by-length (stringCall s rec mode text lay colour) (λ len. ruleOf len (answer len)) (λ old. string-is colour old (answer (length old)))
       (λ len. string-lit len (answer len) refl) (λ len. string-found len (answer len) refl)
       (λ len. string-none len (answer len)) (λ len. string-inside len (answer len) refl)
       (λ len more e f k. string-whole more (answer more) refl f k ∙ sym (string-whole len (answer len) refl e k))

@@ -11,6 +11,7 @@ use borrow.Author.Tests.{le-leb}
 use Rattle.reads.specs.Said.{Said, refusal, says, refuses}
 use Rattle.reads.proofs.Tests.{split}
 use Rattle.tables.specs.declared.Record.{Record}
+use Rattle.modes.specs.declared.Mode.{Mode}
 use Rattle.load.proofs.Serves.{loaded-serves}
 use Rattle.bitmaps.specs.Place.{placeAt}
 use Rattle.bitmaps.specs.Limits.{okPlace}
@@ -36,19 +37,19 @@ pub ok-place : (start stride scale : ℕ) → start ≤ 2147483647 → 1 ≤ str
 ok-place start stride scale a b c d e =
     rw (le-leb start 2147483647 a, le-leb 1 stride b, le-leb stride 65535 c, le-leb 1 scale d, le-leb scale 64 e) refl
 
-module _ (s : List ℕ) (rec : Record) (text : List ℕ) (lay : Layout) (colour : ℕ) (old : List ℕ) where
+module _ (s : List ℕ) (rec : Record) (mode : Mode) (text : List ℕ) (lay : Layout) (colour : ℕ) (old : List ℕ) where
   abbrev len : ℕ
   len = length old
 
   abbrev spots : List Spot
-  spots = spotsOf s rec lay text
+  spots = spotsOf s rec mode lay text
 
   -- what the answer tells of a whole text
   abbrev ToldWhole : TextDrawn → Type 0
-  ToldWhole a = Told s rec lay len a spots (endOf s rec lay text) 0
+  ToldWhole a = Told s rec lay len a spots (endOf s rec mode lay text) 0
 
   abbrev IsSome : Type 0
-  IsSome = SomeBeyond s rec text lay colour old
+  IsSome = SomeBeyond s rec mode text lay colour old
 
   -- ---- refused exactly when, and where
 
@@ -84,12 +85,12 @@ module _ (s : List ℕ) (rec : Record) (text : List ℕ) (lay : Layout) (colour 
         λ i. record { number = same-number i; place = same-place i; values = [] },
   )
 
-  refused-leaves : (a : TextDrawn) → ToldWhole a → IsSome → stringLeaves s rec text lay colour a old ≡ old
+  refused-leaves : (a : TextDrawn) → ToldWhole a → IsSome → stringLeaves s rec mode text lay colour a old ≡ old
   refused-leaves (TextDrawn.Done t) (none, height, dropped) some = absurd (none some)
   refused-leaves (TextDrawn.Refused r) told some = refl
 
   drawn-says : (a : TextDrawn) → ToldWhole a → (IsSome → ⊥)
-      → saidText a ≡ says (pos (height s rec text lay colour old) ∷ pos (droppedRows lay len spots) ∷ [])
+      → saidText a ≡ says (pos (height s rec mode text lay colour old) ∷ pos (droppedRows lay len spots) ∷ [])
   drawn-says (TextDrawn.Done t) (none, is-height, is-dropped) drawn =
       let all : t .dropped ≡ droppedRows lay len spots = is-dropped ∙ omega arith in
       ap₂ (λ (h d : ℕ). says (pos h ∷ pos d ∷ [])) is-height all
@@ -97,32 +98,32 @@ module _ (s : List ℕ) (rec : Record) (text : List ℕ) (lay : Layout) (colour 
 
   -- ---- the pixels
 
-  length-kept : (a : TextDrawn) → length (stringLeaves s rec text lay colour a old) ≡ length old
-  length-kept (TextDrawn.Done t) = length-painted (inText s rec lay len (charsOf (decoded text)) origin) colour old
+  length-kept : (a : TextDrawn) → length (stringLeaves s rec mode text lay colour a old) ≡ length old
+  length-kept (TextDrawn.Done t) = length-painted (inText s rec mode lay len (charsOf (decoded text)) origin) colour old
   length-kept (TextDrawn.Refused r) = refl
 
   abbrev pixel : TextDrawn → ℕ → ℕ
-  pixel a i = getD (stringLeaves s rec text lay colour a old) i 0
+  pixel a i = getD (stringLeaves s rec mode text lay colour a old) i 0
 
   abbrev IsDefined : ℕ → Type 0
-  IsDefined = Defined s rec text lay colour old
+  IsDefined = Defined s rec mode text lay colour old
 
   -- a drawn text colours by its rule
-  by-rule : (t : TextRows) (i : ℕ) → i < len → (b : Bool) → inText s rec lay len (charsOf (decoded text)) origin i ≡ b
+  by-rule : (t : TextRows) (i : ℕ) → i < len → (b : Bool) → inText s rec mode lay len (charsOf (decoded text)) origin i ≡ b
       → pixel (TextDrawn.Done t) i ≡ cond b colour (getD old i 0)
   by-rule t i h b e =
-      getD-painted (inText s rec lay len (charsOf (decoded text)) origin) colour old i h ∙ ap (λ (x : Bool). cond x colour (getD old i 0)) e
+      getD-painted (inText s rec mode lay len (charsOf (decoded text)) origin) colour old i h ∙ ap (λ (x : Bool). cond x colour (getD old i 0)) e
 
   module _ (passed : vetted s ≡ Vetted.Passed rec) where
     pixel-coloured : (a : TextDrawn) → ToldWhole a → (IsSome → ⊥) → (i : ℕ) → i < len → IsDefined i → pixel a i ≡ colour
     pixel-coloured (TextDrawn.Done t) (none, height, dropped) drawn i h is =
-        by-rule t i h true (inked-text s rec lay len i passed (charsOf (decoded text)) origin none .1 is)
+        by-rule t i h true (inked-text s rec lay len i passed mode (charsOf (decoded text)) origin none .1 is)
     pixel-coloured (TextDrawn.Refused r) (number, first) drawn i h is = absurd (drawn (first-some (r .place) spots first))
 
     pixel-kept : (a : TextDrawn) → ToldWhole a → (i : ℕ) → i < len → (IsDefined i → ⊥) → pixel a i ≡ getD old i 0
     pixel-kept (TextDrawn.Done t) (none, height, dropped) i h is-none =
-        split (inText s rec lay len (charsOf (decoded text)) origin i)
-        (λ e. absurd (is-none (inked-text s rec lay len i passed (charsOf (decoded text)) origin none .0 e)))
+        split (inText s rec mode lay len (charsOf (decoded text)) origin i)
+        (λ e. absurd (is-none (inked-text s rec lay len i passed mode (charsOf (decoded text)) origin none .0 e)))
         (by-rule t i h false)
     pixel-kept (TextDrawn.Refused r) told i h is-none = refl
 
@@ -135,7 +136,7 @@ module _ (s : List ℕ) (rec : Record) (text : List ℕ) (lay : Layout) (colour 
         (scale-high : lay .scale ≤ 64)
       where
         -- nothing refuses before the first character
-        answer-is : drawString s rec text len lay ≡ textFrom s rec lay len (charsOf (decoded text)) origin 0
+        answer-is : drawString s rec mode text len lay ≡ textFrom s rec mode lay len (charsOf (decoded text)) origin 0
         unfolding drawString ready
         answer-is =
             let (loads, sound) = passes-when s rec .0 passed in
@@ -146,10 +147,10 @@ module _ (s : List ℕ) (rec : Record) (text : List ℕ) (lay : Layout) (colour 
               sound .bounds,
             ) refl
 
-        pub shown-when-read : Shown s rec text lay colour old
+        pub shown-when-read : Shown s rec mode text lay colour old
         shown-when-read =
-            let a = drawString s rec text len lay in
-            let told = subst ToldWhole (sym answer-is) (told-text s rec lay len passed (charsOf (decoded text)) origin 0) in
+            let a = drawString s rec mode text len lay in
+            let told = subst ToldWhole (sym answer-is) (told-text s rec lay len passed mode (charsOf (decoded text)) origin 0) in
             record {
               refused-exactly = refused-exactly a told;
               refused-where = refused-where a told;
@@ -158,12 +159,12 @@ module _ (s : List ℕ) (rec : Record) (text : List ℕ) (lay : Layout) (colour 
               pixel-coloured = pixel-coloured a told;
               pixel-kept = pixel-kept a told;
               length-kept = length-kept a;
-              height-most = height-within text s rec lay;
+              height-most = height-within text s rec mode lay;
             }
 
 -- ---- with a font that passed
 
-pub text-shown : (s : List ℕ) (rec : Record) (text : List ℕ) (lay : Layout) → Given s rec text lay → (colour : ℕ) (old : List ℕ) → Shown s rec text lay colour old
-text-shown s rec text lay given colour old =
-    shown-when-read s rec text lay colour old (given .passed) (well-whole text (given .short) (given .well-formed))
+pub text-shown : (s : List ℕ) (rec : Record) (mode : Mode) (text : List ℕ) (lay : Layout) → Given s rec text lay → (colour : ℕ) (old : List ℕ) → Shown s rec mode text lay colour old
+text-shown s rec mode text lay given colour old =
+    shown-when-read s rec mode text lay colour old (given .passed) (well-whole text (given .short) (given .well-formed))
     (given .start-high) (given .stride-low) (given .stride-high) (given .scale-low) (given .scale-high)

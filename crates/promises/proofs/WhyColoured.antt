@@ -10,6 +10,7 @@ use Rattle.reads.proofs.Tests.{never, split}
 use Rattle.tables.specs.declared.BitmapData.{BitmapData}
 use Rattle.tables.specs.declared.MetricsUnpacked.{MetricsUnpacked}
 use Rattle.tables.specs.declared.Record.{Record}
+use Rattle.modes.specs.declared.Mode.{Mode}
 use Rattle.metrics.specs.Measure.{glyphMetrics, metricsOf}
 use Rattle.bitmaps.specs.Place.{Place}
 use Rattle.bitmaps.specs.Picture.{noBitmap, unreadable, rowsShort, pixelPast}
@@ -30,10 +31,10 @@ use Rattle.promises.proofs.Coloured.{dot-past}
 use Rattle.promises.proofs.Vetting.{good-order, good-metrics}
 use Rattle.promises.proofs.WhyFirst.{short-beyond, within-limits, why-first}
 
-module _ (s : List ℕ) (rec : Record) (code len : ℕ) (at : Place) where
+module _ (s : List ℕ) (rec : Record) (mode : Mode) (code len : ℕ) (at : Place) where
   -- nothing before rows cut is true
   abbrev Unhindered : Type 0
-  Unhindered = (other : Reason) → rank other < rank (Reason.RowsCut 0) → TrueOf s rec code len at other → ⊥
+  Unhindered = (other : Reason) → rank other < rank (Reason.RowsCut 0) → TrueOf s rec mode code len at other → ⊥
 
   -- a glyph that nothing hinders
   module _ (asked : Askable s rec at) (g : ℕ) (found : HasGlyph s rec code g) (none : Unhindered) where
@@ -93,15 +94,15 @@ module _ (s : List ℕ) (rec : Record) (code len : ℕ) (at : Place) where
         (λ t. t)
 
     -- is drawn, with these rows
-    drawn-so : drawChar s rec code len at ≡ CharDrawn.Glyph box (rowsOf (box .height) n)
+    drawn-so : drawChar s rec mode code len at ≡ CharDrawn.Glyph box (rowsOf (box .height) n)
     unfolding drawChar charReady prepared infoOf metricsOf glyphDrawn shownAt
     drawn-so = rw (asked .fits, within-limits s rec code len at asked, found, counted, in-range, pictured, readable, there, room)
 
   -- some pixel of the buffer gets the colour
-  pub drawn-coloured : whyOf s rec code len at ≡ Told.Because Reason.Drawn
-      → (i : ℕ) × (i < len) × charColoured s (rec .bitmaps) at (drawChar s rec code len at) i
+  pub drawn-coloured : whyOf s rec mode code len at ≡ Told.Because Reason.Drawn
+      → (i : ℕ) × (i < len) × charColoured s (rec .bitmaps) at (drawChar s rec mode code len at) i
   drawn-coloured e =
-      let (asked, first) = why-first s rec code len at Reason.Drawn .0 e in
+      let (asked, first) = why-first s rec mode code len at Reason.Drawn .0 e in
       let g = first .is-true .glyph in
       let found = first .is-true .found in
       let none : Unhindered = λ other h w. first .none-before other (omega arith) w in
@@ -129,10 +130,10 @@ module _ (s : List ℕ) (rec : Record) (code len : ℕ) (at : Place) where
       )
 
   -- none does
-  pub blank-uncoloured : whyOf s rec code len at ≡ Told.Because Reason.Blank
-      → (i : ℕ) → charColoured s (rec .bitmaps) at (drawChar s rec code len at) i → ⊥
+  pub blank-uncoloured : whyOf s rec mode code len at ≡ Told.Because Reason.Blank
+      → (i : ℕ) → charColoured s (rec .bitmaps) at (drawChar s rec mode code len at) i → ⊥
   blank-uncoloured e i lit =
-      let (asked, first) = why-first s rec code len at Reason.Blank .0 e in
+      let (asked, first) = why-first s rec mode code len at Reason.Blank .0 e in
       let g = first .is-true .glyph in
       let found = first .is-true .found in
       let none : Unhindered = λ other h w. first .none-before other (omega arith) w in

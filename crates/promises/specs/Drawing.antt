@@ -9,6 +9,7 @@ use lib.Dec.{eqb}
 use Rattle.reads.specs.Said.{Said}
 use Rattle.tables.specs.declared.BitmapData.{BitmapData}
 use Rattle.tables.specs.declared.Record.{Record}
+use Rattle.modes.specs.declared.Mode.{Mode}
 use Rattle.bitmaps.specs.Place.{Place}
 use Rattle.bitmaps.specs.Picture.{glyphBit}
 use Rattle.bitmaps.specs.Draw.{drawBitmap, shownLeaves, saidDrawn}
@@ -75,7 +76,7 @@ wholeDrawn (Drawn.Rows r) = eqb (r .dropped) 0
 wholeDrawn (Drawn.Refused r) = false
 
 abbrev pub wholeChar : CharDrawn → Bool
-wholeChar (CharDrawn.Glyph i r) = eqb (r .dropped) 0
+wholeChar (CharDrawn.Glyph i r by) = eqb (r .dropped) 0
 wholeChar (CharDrawn.Refused r) = false
 
 abbrev pub wholeUnpacked : Unpacked → Bool
@@ -94,7 +95,7 @@ module _ (s : List ℕ) (b : BitmapData) (g width : ℕ) (at : Place) where
   unpackedColoured (Unpacked.Refused r) i = ⊥
 
 abbrev pub charColoured : List ℕ → BitmapData → Place → CharDrawn → ℕ → Type 0
-charColoured s b at (CharDrawn.Glyph i r) k = Coloured (glyphBit s b (i .glyph .0) (i .width)) (placeOf i at) (i .width) (r .drawn) k
+charColoured s b at (CharDrawn.Glyph i r by) k = Coloured (glyphBit s b (i .glyph .0) (i .width)) (placeOf i at) (i .width) (r .drawn) k
 charColoured s b at (CharDrawn.Refused r) k = ⊥
 
 module _ (s : List ℕ) (rec : Record) (at : Place) where
@@ -108,9 +109,9 @@ module _ (s : List ℕ) (rec : Record) (at : Place) where
     whole = wholeDrawn;
   }
 
-  abbrev pub glyphCall : GlyphInfo → ℕ → Call Drawn
-  glyphCall i colour = record {
-    answer = λ len. drawGlyph s rec i len at;
+  abbrev pub glyphCall : Mode → GlyphInfo → ℕ → Call Drawn
+  glyphCall mode i colour = record {
+    answer = λ len. drawGlyph s rec mode i len at;
     said = saidDrawn;
     leaves = glyphLeaves s rec i at colour;
     colour = colour;
@@ -118,9 +119,9 @@ module _ (s : List ℕ) (rec : Record) (at : Place) where
     whole = wholeDrawn;
   }
 
-  abbrev pub charCall : ℕ → ℕ → Call CharDrawn
-  charCall code colour = record {
-    answer = λ len. drawChar s rec code len at;
+  abbrev pub charCall : Mode → ℕ → ℕ → Call CharDrawn
+  charCall mode code colour = record {
+    answer = λ len. drawChar s rec mode code len at;
     said = saidChar;
     leaves = charLeaves s rec at colour;
     colour = colour;
@@ -129,9 +130,9 @@ module _ (s : List ℕ) (rec : Record) (at : Place) where
   }
 
 -- unpacking has a start and a stride, and "scale 1"
-abbrev pub unpackCall : List ℕ → Record → ℕ → ℕ → GlyphInfo → Call Unpacked
-unpackCall s rec start stride i = record {
-  answer = λ len. unpackGlyph s rec i len start stride;
+abbrev pub unpackCall : List ℕ → Record → Mode → ℕ → ℕ → GlyphInfo → Call Unpacked
+unpackCall s rec mode start stride i = record {
+  answer = λ len. unpackGlyph s rec mode i len start stride;
   said = saidUnpacked;
   leaves = unpackLeaves s rec i start stride;
   colour = 1;

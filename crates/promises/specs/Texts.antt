@@ -1,4 +1,4 @@
--- What the panel shows of a text, in plain logic: with a font that passed vetting, a text is refused exactly when a set bit of a drawn
+-- What the panel shows of a text, in plain logic, in each mode: with a font that passed vetting, a text is refused exactly when a set bit of a drawn
 -- row would colour a pixel beyond the buffer; otherwise each defined pixel has the colour, every other pixel keeps its value, and the
 -- height and the dropped rows are the defined ones.
 use Prim.Native.Nat.{ℕ, _+_, _-_, _*_, _≤_, _<_}
@@ -11,6 +11,7 @@ use lib.ListN.{length, getD}
 use lib.Dec.{eqb}
 use Rattle.reads.specs.Said.{Said, refusal, says, refuses}
 use Rattle.tables.specs.declared.Record.{Record}
+use Rattle.modes.specs.declared.Mode.{Mode}
 use Rattle.bitmaps.specs.Place.{Place}
 use Rattle.bitmaps.specs.Cut.{drawnRows}
 use Rattle.bitmaps.specs.Picture.{glyphBit}
@@ -42,16 +43,16 @@ spotBefore byte (Placed.Skip pen) rest = rest
 spotBefore byte (Placed.Glyph pen i) rest = record { byte = byte; pen = pen; info = i } ∷ rest
 spotBefore byte (Placed.Refused n) rest = rest
 
-module _ (s : List ℕ) (rec : Record) (lay : Layout) where
+module _ (s : List ℕ) (rec : Record) (mode : Mode) (lay : Layout) where
   -- the glyphs that these characters draw with the pen here
   unfoldable pub spotsFrom : List Char → Pen → List Spot
   spotsFrom [] pen = []
-  spotsFrom (c ∷ cs) pen = let p = placed s rec lay (c .code) pen in spotBefore (c .byte) p (spotsFrom cs (penAfter lay p pen))
+  spotsFrom (c ∷ cs) pen = let p = placed s rec mode lay (c .code) pen in spotBefore (c .byte) p (spotsFrom cs (penAfter lay p pen))
 
   -- where the pen stands after them
   unfoldable pub endFrom : List Char → Pen → Pen
   endFrom [] pen = pen
-  endFrom (c ∷ cs) pen = endFrom cs (penAfter lay (placed s rec lay (c .code) pen) pen)
+  endFrom (c ∷ cs) pen = endFrom cs (penAfter lay (placed s rec mode lay (c .code) pen) pen)
 
   -- of a whole text
   abbrev pub spotsOf : List ℕ → List Spot
@@ -110,9 +111,9 @@ pub record Given (s : List ℕ) (rec : Record) (text : List ℕ) (lay : Layout) 
 abbrev pub IsRefusal : Said → Type 0
 IsRefusal a = a .number ≡ 0 → ⊥
 
-module _ (s : List ℕ) (rec : Record) (text : List ℕ) (lay : Layout) (colour : ℕ) (old : List ℕ) where
+module _ (s : List ℕ) (rec : Record) (mode : Mode) (text : List ℕ) (lay : Layout) (colour : ℕ) (old : List ℕ) where
   abbrev pub answer : TextDrawn
-  answer = drawString s rec text (length old) lay
+  answer = drawString s rec mode text (length old) lay
 
   -- number, place and values of the answer
   abbrev pub said : Said
@@ -120,29 +121,29 @@ module _ (s : List ℕ) (rec : Record) (text : List ℕ) (lay : Layout) (colour 
 
   -- the buffer after the call
   abbrev pub new : List ℕ
-  new = stringLeaves s rec text lay colour answer old
+  new = stringLeaves s rec mode text lay colour answer old
 
   -- a set bit of a drawn row of some glyph would colour a pixel beyond the buffer
   abbrev pub SomeBeyond : Type 0
-  SomeBeyond = Some (Beyond lay (length old) s rec) (spotsOf s rec lay text)
+  SomeBeyond = Some (Beyond lay (length old) s rec) (spotsOf s rec mode lay text)
 
   -- pixel i is a defined one
   abbrev pub Defined : ℕ → Type 0
-  Defined i = Some (Inked lay (length old) s rec i) (spotsOf s rec lay text)
+  Defined i = Some (Inked lay (length old) s rec i) (spotsOf s rec mode lay text)
 
   -- "y + line height"
   abbrev pub height : ℕ
-  height = endOf s rec lay text .y + lineHeight rec (lay .scale)
+  height = endOf s rec mode lay text .y + lineHeight rec (lay .scale)
 
   pub record Shown : Type 0 where
     -- refused exactly when
     pub refused-exactly : IsRefusal said ↔ SomeBeyond
     -- and then with 16 at the byte of the first such character
-    pub refused-where : (n p : ℕ) → (said ≡ refuses (refusal n p)) ↔ ((n ≡ 16) × FirstBeyond lay (length old) s rec p (spotsOf s rec lay text))
+    pub refused-where : (n p : ℕ) → (said ≡ refuses (refusal n p)) ↔ ((n ≡ 16) × FirstBeyond lay (length old) s rec p (spotsOf s rec mode lay text))
     -- and the buffer is as it was
     pub refused-leaves : SomeBeyond → new ≡ old
     -- otherwise the answer is the height and the dropped rows
-    pub drawn-says : (SomeBeyond → ⊥) → said ≡ says (pos height ∷ pos (droppedRows lay (length old) (spotsOf s rec lay text)) ∷ [])
+    pub drawn-says : (SomeBeyond → ⊥) → said ≡ says (pos height ∷ pos (droppedRows lay (length old) (spotsOf s rec mode lay text)) ∷ [])
     -- each defined pixel has the colour, every other pixel keeps its value
     pub pixel-coloured : (SomeBeyond → ⊥) → (i : ℕ) → i < length old → Defined i → getD new i 0 ≡ colour
     pub pixel-kept : (i : ℕ) → i < length old → (Defined i → ⊥) → getD new i 0 ≡ getD old i 0
@@ -162,20 +163,20 @@ abbrev pub wholeText : TextDrawn → Bool
 wholeText (TextDrawn.Done t) = eqb (t .dropped) 0
 wholeText (TextDrawn.Refused r) = false
 
-module _ (s : List ℕ) (rec : Record) (text : List ℕ) (lay : Layout) where
+module _ (s : List ℕ) (rec : Record) (mode : Mode) (text : List ℕ) (lay : Layout) where
   -- pixel i is one of this glyph, where it has a bitmap: "texts treat 12 as nothing drawn"
   abbrev pub InkedAny : ℕ → ℕ → Spot → Type 0
   InkedAny len i x = (x .info .glyph .0 < rec .bitmaps .count) × Inked lay len s rec i x
 
   abbrev pub textColoured : ℕ → TextDrawn → ℕ → Type 0
-  textColoured len (TextDrawn.Done t) i = Some (InkedAny len i) (spotsOf s rec lay text)
+  textColoured len (TextDrawn.Done t) i = Some (InkedAny len i) (spotsOf s rec mode lay text)
   textColoured len (TextDrawn.Refused r) i = ⊥
 
   abbrev pub stringCall : ℕ → Call TextAnswer
   stringCall colour = record {
-    answer = λ len. record { len = len; drawn = drawString s rec text len lay };
+    answer = λ len. record { len = len; drawn = drawString s rec mode text len lay };
     said = λ a. saidText (a .drawn);
-    leaves = λ a. stringLeaves s rec text lay colour (a .drawn);
+    leaves = λ a. stringLeaves s rec mode text lay colour (a .drawn);
     colour = colour;
     coloured = λ a. textColoured (a .len) (a .drawn);
     whole = λ a. wholeText (a .drawn);

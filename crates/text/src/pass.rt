@@ -12,6 +12,7 @@ use bitmaps::Drawn;
 use bitmaps::Rows;
 use glyphs::glyph_drawn;
 use glyphs::show_glyph;
+use lookup::Served;
 use modes::Mode;
 use reads::Refusal;
 use tables::Record;
@@ -20,6 +21,7 @@ use utf8::step_at;
 ghost use mathlib.Core.Path.{_≡_};
 ghost use lib.ListN.{length};
 ghost use Rattle.bitmaps.specs.Paint.{painted};
+ghost use Rattle.lookup.specs.Served.{standIn};
 ghost use Rattle.utf8.specs.Decode.{decoded, charsOf};
 ghost use Rattle.text.specs.Walk.{origin, placedDrawn, inPlaced};
 ghost use Rattle.text.specs.Text.{textFrom, inText};
@@ -116,11 +118,13 @@ fn turn_drawn(
 }
 
 // The height and dropped rows of a text in a buffer of `len` pixels, or the refusal of the first character
-// that has one, with the byte where it starts; with ink its pixels are coloured.
+// that has one, with the byte where it starts; with ink its pixels are coloured. `other` is what stands in for a code
+// without a glyph.
 pub(crate) fn text_pass(
     s: &[u8],
     rec: Record,
     mode: Mode,
+    other: Served,
     lay: Layout,
     line: usize,
     len: usize,
@@ -132,6 +136,7 @@ pub(crate) fn text_pass(
     requires { ⌜ Settled rec lay line ⌝ }
     requires { ⌜ Readable (now text) ⌝ }
     requires { ⌜ Inkable ink (now s) rec mode lay len (now text) (length (now buf)) ⌝ }
+    requires { ⌜ other ≡ standIn (now s) (rec .codes) mode ⌝ }
     ensures { λ r. ⌜ r ≡ textFrom (now (s .entry)) rec mode lay len (charsOf (decoded (now (text .entry)))) origin 0 ⌝ }
     ensures { λ r. ⌜ now (buf .exit) ≡ painted (inked ink (inText (now (s .entry)) rec mode lay len (charsOf (decoded (now (text .entry)))) origin)) colour (now (buf .entry)) ⌝ }
 {
@@ -142,7 +147,7 @@ pub(crate) fn text_pass(
         let here = step_at(text, i);
         match here {
             Step::Char(code, next) => {
-                let placed = placed_at(s, rec, mode, lay, line, code, pen);
+                let placed = placed_at(s, rec, mode, other, lay, line, code, pen);
                 let drawn = turn_drawn(s, rec, lay, line, len, &mut *buf, placed, ink, colour);
                 match drawn {
                     Drawn::Rows(rows) => {

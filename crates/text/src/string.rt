@@ -4,6 +4,7 @@ use crate::Ready;
 use crate::TextDrawn;
 use crate::Wrap;
 use crate::pass::text_pass;
+use lookup::stand_in;
 use modes::Mode;
 use outcome::ok_place;
 use place::Sized;
@@ -69,12 +70,14 @@ pub fn text_check(
     let ready = ready_for(bytes, rec, text, lay);
     match ready {
         Ready::Line(line) => {
+            let other = stand_in(bytes, rec.codes, mode);
             // A pass takes a buffer; without ink it colours nothing there.
             let mut unused = [0; 1];
             text_pass(
                 bytes,
                 rec,
                 mode,
+                other,
                 lay,
                 line,
                 len,
@@ -127,10 +130,12 @@ pub fn draw_string(
     match ready {
         Ready::Line(line) => {
             let len = buf.len();
+            let other = stand_in(bytes, rec.codes, mode);
             let answer = text_pass(
                 bytes,
                 rec,
                 mode,
+                other,
                 lay,
                 line,
                 len,
@@ -145,6 +150,7 @@ pub fn draw_string(
                         bytes,
                         rec,
                         mode,
+                        other,
                         lay,
                         line,
                         len,

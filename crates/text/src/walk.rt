@@ -4,7 +4,8 @@ use crate::Pen;
 use crate::Placed;
 use crate::Wrap;
 use lookup::Served;
-use lookup::serve;
+use lookup::glyph_of;
+use lookup::or_else;
 use metrics::Measured;
 use metrics::metrics_of;
 use modes::Mode;
@@ -16,6 +17,7 @@ use reads::GlyphIndex;
 use tables::Record;
 ghost use mathlib.Core.Path.{_≡_};
 ghost use Prim.Native.Nat.{_≤_};
+ghost use Rattle.lookup.specs.Served.{standIn};
 ghost use Rattle.place.specs.Info.{infoIn};
 ghost use Rattle.text.specs.Walk.{newline, advanceOf, reaches, wrapped, placeInfo, placed, spot, penAfter};
 ghost use Rattle.text.specs.Within.{Settled, PenIn, PlacedIn, Moved, placedPen};
@@ -80,11 +82,13 @@ fn place_glyph(s: &[u8], rec: Record, lay: Layout, line: usize, g: GlyphIndex, p
     }
 }
 
-// What a character does with the pen here: both passes over a text ask this of each character.
+// What a character does with the pen here: both passes over a text ask this of each character. `other` is what stands
+// in for a code without a glyph; the mode is for the contract alone.
 pub(crate) fn placed_at(
     s: &[u8],
     rec: Record,
     mode: Mode,
+    other: Served,
     lay: Layout,
     line: usize,
     code: CharCode,
@@ -92,6 +96,7 @@ pub(crate) fn placed_at(
 ) -> Placed
     requires { ⌜ Settled rec lay line ⌝ }
     requires { ⌜ PenIn 65535 pen ⌝ }
+    requires { ⌜ other ≡ standIn (now s) (rec .codes) mode ⌝ }
     ensures { λ r. ⌜ r ≡ placed (now (s .entry)) rec mode lay (code .0) pen ⌝ }
 {
     if code.0 == 13 {
@@ -100,7 +105,8 @@ pub(crate) fn placed_at(
     if code.0 == 10 {
         return Placed::Skip(newline(line, pen));
     }
-    let served = serve(s, rec.codes, mode, code);
+    let own = glyph_of(s, rec.codes, code);
+    let served = or_else(code, own, other);
     match served {
         Served::Glyph(g, _) => place_glyph(s, rec, lay, line, g, pen),
         Served::Refused(_) => Placed::Skip(pen),

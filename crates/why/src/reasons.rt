@@ -12,7 +12,8 @@ use bitmaps::unreadable;
 use glyphs::place_of;
 use lookup::Served;
 use lookup::Supplier;
-use lookup::serve;
+use lookup::glyph_of;
+use lookup::or_stand_in;
 use modes::Mode;
 use outcome::rows_drawn;
 use outcome::rows_past;
@@ -187,7 +188,8 @@ pub(crate) fn reason_of(
 ) -> Told
     ensures { λ r. ⌜ r ≡ reasonOf (now (s .entry)) rec mode (code .0) len (placeAt start stride scale) ⌝ }
 {
-    let served = serve(s, rec.codes, mode, code);
+    let own = glyph_of(s, rec.codes, code);
+    let served = or_stand_in(s, rec.codes, mode, code, own);
     match served {
         Served::Glyph(g, by) => {
             Told::Because(glyph_reason(s, rec, g, len, start, stride, scale), by)

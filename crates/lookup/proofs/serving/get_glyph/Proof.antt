@@ -8,6 +8,6 @@ get-glyph-spec =
     tie.close
     (tie.spec
     (λ c κs. search needs)  -- record-fits-requires
-    (λ c κs. search needs)  -- glyph-of-requires
+    (λ c κs. search needs)  -- serve-requires
     (λ c. search glyph-fits)  -- returns
     (λ c. search glyph-unfit))  -- returns-2

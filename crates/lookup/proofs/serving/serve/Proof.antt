@@ -1,4 +1,4 @@
-use Rattle.lookup.proofs.ServedBy.{served-default, served-itself, unserved}
+use Rattle.lookup.proofs.ServedBy.{served-in-steps}
 use borrow.Author.Needs.{needs}
 use Rattle.lookup.proofs.serving.serve.Statement.{statement}
 use Rattle.lookup.proofs.serving.serve.Tie as tie
@@ -8,9 +8,5 @@ serve-spec =
     tie.close
     (tie.spec
     (λ c κs. search needs)  -- glyph-of-requires
-    (λ c. search needs)  -- enum-known-found
-    (λ c. search needs)  -- enum-known-found-2
-    (λ c κs. search needs)  -- stand-in-requires
-    (λ c. search served-default)  -- returns
-    (λ c. search served-itself)  -- returns-2
-    (λ c. search unserved))  -- returns-3
+    (λ c κs. search needs)  -- or-stand-in-requires
+    (λ c. search served-in-steps))  -- returns

@@ -22,10 +22,10 @@ use Rattle.text.proofs.pass.text_pass.Statement.{statement}
 use Rattle.text.proofs.pass.text_pass.Tie as tie
 
 abbrev Inv-loop : tie.InvT-loop
-Inv-loop s rec mode lay line len buf₀ text ink colour i₀ pen₀ dropped₀ buf i pen dropped = Walking s rec mode lay len text ink colour buf₀ i pen dropped buf
+Inv-loop s rec mode other lay line len buf₀ text ink colour i₀ pen₀ dropped₀ buf i pen dropped = Walking s rec mode lay len text ink colour buf₀ i pen dropped buf
 
 abbrev μ-loop : tie.MeasureT-loop
-μ-loop s rec mode lay line len buf₀ text ink colour i₀ pen₀ dropped₀ buf i pen dropped = length text - i
+μ-loop s rec mode other lay line len buf₀ text ink colour i₀ pen₀ dropped₀ buf i pen dropped = length text - i
 
 pub text-pass-spec : {M : Type 1} → statement M
 text-pass-spec =
@@ -49,7 +49,9 @@ text-pass-spec =
     (λ c. search (walking-next, known (tie.Start Inv-loop μ-loop) (search) .pre .0))  -- loop-again
     (λ c. search needs)  -- enum-known-drawn-2
     (λ c. omega arith)  -- same-length
-    (λ c. (search walking-stop, search inked-stop))  -- returns
+    (λ c.
+    let entry = known (tie.Start Inv-loop μ-loop) (search) .pre in
+    (search (walking-stop, entry .0), search (inked-stop, entry .0, entry .1 .1 .0)))  -- returns
     (λ c. search needs)  -- enum-told
     (λ c. omega arith)  -- add-t25
     (λ c. search)  -- same-length-2
