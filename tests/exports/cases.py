@@ -66,7 +66,7 @@ def answered(c):
         return {"name": {"start": start, "len": length}, "is_string": is_string,
                 "number": 0 if is_string else value[0], "string": string}, buf
     if function == "thk_glyph":
-        return {"glyph": model.get_glyph(b, rec, c["code"])}, buf
+        return {"glyph": model.get_glyph(b, rec, model.PLAIN, c["code"])[0]}, buf
     if function == "thk_name":
         start, length = model.get_name(b, rec, c["glyph"])
         return {"name": {"start": start, "len": length}}, buf
@@ -78,28 +78,28 @@ def answered(c):
         height, width = model.dimensions(b, rec)
         return {"extent": {"height": height, "width": width}}, buf
     if function == "thk_prep_char":
-        return {"info": model.prep_char(b, rec, c["code"])}, buf
+        return {"info": model.prep_char(b, rec, model.PLAIN, c["code"])[0]}, buf
     if function == "thk_draw_bitmap":
         rows, new = model.draw_bitmap(b, rec, c["glyph"], c["width"], c["height"], buf, *where, colour)
         return {"rows": {"drawn": rows[0], "dropped": rows[1]}}, new
     if function == "thk_draw_glyph":
-        rows, new = model.draw_glyph(b, rec, info_of(c), buf, *where, colour)
+        rows, new = model.draw_glyph(b, rec, model.PLAIN, info_of(c), buf, *where, colour)
         return {"rows": {"drawn": rows[0], "dropped": rows[1]}}, new
     if function == "thk_draw_char":
-        (info, drawn, dropped), new = model.draw_char(b, rec, c["code"], buf, *where, colour)
+        (info, drawn, dropped, _, _), new = model.draw_char(b, rec, model.PLAIN, c["code"], buf, *where, colour)
         return {"info": info, "rows": {"drawn": drawn, "dropped": dropped}}, new
     if function == "thk_why":
-        number, cut = model.why(b, rec, c["code"], c["len"], *where)
+        number, cut, _, _ = model.why(b, rec, model.PLAIN, c["code"], c["len"], *where)
         return {"reason": {"number": number, "cut": cut}}, buf
     if function == "thk_unpack_glyph":
-        rows, new = model.unpack_glyph(b, rec, info_of(c), buf, *where[:2])
+        rows, new = model.unpack_glyph(b, rec, model.PLAIN, info_of(c), buf, *where[:2])
         return {"rows": rows}, new
     wrap = None if c.get("wrap", 0) == LAST else c.get("wrap", 0)
     if function == "thk_draw_string":
-        rows, new = model.draw_string(b, rec, c["text"], buf, where[0], wrap, *where[1:], colour)
+        rows, new = model.draw_string(b, rec, model.PLAIN, c["text"], buf, where[0], wrap, *where[1:], colour)
         return {"rows": {"height": rows[0], "dropped": rows[1]}}, new
     if function == "thk_text_check":
-        rows, _ = model.text_check(b, rec, c["text"], c["len"], where[0], wrap, *where[1:])
+        rows, _ = model.text_check(b, rec, model.PLAIN, c["text"], c["len"], where[0], wrap, *where[1:])
         return {"rows": {"height": rows[0], "dropped": rows[1]}}, buf
     step = model.utf8_step(c["text"], c["start"])
     return {"found": step is not None, "code": step[0] if step else 0, "next": step[1] if step else 0}, buf
@@ -380,7 +380,7 @@ def page_by_lot(rng, b, rec, code):
     """numbers of a page that ends around a row or a pixel of a code's glyph, if it has one that can be placed"""
     where = {"start": rng.choice((0, 0, 1, 50)), "stride": rng.choice((1, 3, 8, 33)), "scale": rng.choice((1, 1, 2, 5))}
     try:
-        info = model.prep_char(b, rec, code)
+        info, _, _ = model.prep_char(b, rec, model.PLAIN, code)
     except model.Refused:
         return {**where, "len": rng.randrange(100)}
     first = place_of(info, **where)

@@ -54,7 +54,8 @@ def example(at, folder):
             if refused == "font":
                 raise rec
             page = [0] * (width * height)
-            (tall, dropped), page = model.draw_string(font, rec, text, page, 0, width + 1, width, scale, 1)
+            (tall, dropped), page = model.draw_string(font, rec, model.PLAIN, text, page, 0, width + 1, width, scale,
+                                                      1)
         except model.Refused as r:
             words = "draw: the %s is refused, %d at %d: %s\n" % (refused, r.number, r.place, c_words()[r.number])
             expect(what, got, 1, b"", re.escape(words))

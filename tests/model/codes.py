@@ -1,11 +1,11 @@
-"""The lookup of a code's glyph."""
+"""The lookup of a code's glyph, plainly and in the caller's mode."""
 from model.reads import u16
 from model.record import check_record
 from model.refusal import Refused
 
 
 def lookup(b, rec, code):
-    """glyph or None"""
+    """glyph or None; plain, as vetting and the dump have it"""
     c = rec["codes"]
     if code > 65535:
         return None
@@ -27,9 +27,23 @@ def lookup(b, rec, code):
     return glyph
 
 
-def get_glyph(b, rec, code):
-    check_record(b, rec)
+def serve(b, rec, mode, code):
+    """glyph, the code that supplied it, and whether that is the default; or None"""
     g = lookup(b, rec, code)
+    if g is not None:
+        return g, code, False                # its own glyph, though it may be the default code
+    if not mode.default:
+        return None
+    default = rec["codes"]["default"]
+    g = lookup(b, rec, default)              # plainly: there is no second default
     if g is None:
+        return None
+    return g, default, True
+
+
+def get_glyph(b, rec, mode, code):
+    check_record(b, rec)
+    served = serve(b, rec, mode, code)
+    if served is None:
         raise Refused(9)
-    return g
+    return served

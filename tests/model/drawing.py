@@ -1,7 +1,7 @@
 """Drawing and unpacking a glyph. Each call is its dry run, which answers for a buffer of L pixels or bytes and tells
-the pixels to colour, and then the colouring."""
-from model.codes import lookup
-from model.metrics import place_glyph
+the pixels to colour, and then the colouring. The mode that a call takes decides the lookup alone, so that a glyph that
+is handed in is drawn alike in every mode."""
+from model.metrics import place_char
 from model.reads import u32
 from model.record import check_record
 from model.refusal import Refused
@@ -165,7 +165,7 @@ def glyph_picture(b, rec, info, L, start, stride, scale):
     return (r[0], info["height"] - r[0], r[1])
 
 
-def glyph_check(b, rec, info, L, start, stride, scale):
+def glyph_check(b, rec, mode, info, L, start, stride, scale):
     check_record(b, rec)
     if bad_info(info) or bad_start_stride(start, stride) or bad_scale(scale):
         raise Refused(15)
@@ -175,33 +175,28 @@ def glyph_check(b, rec, info, L, start, stride, scale):
     return (r[0], r[1]), r[2]
 
 
-def draw_glyph(b, rec, info, buf, start, stride, scale, colour):
-    answer, pixels = glyph_check(b, rec, info, len(buf), start, stride, scale)
+def draw_glyph(b, rec, mode, info, buf, start, stride, scale, colour):
+    answer, pixels = glyph_check(b, rec, mode, info, len(buf), start, stride, scale)
     return answer, coloured(buf, pixels, colour)
 
 
-def char_check(b, rec, code, L, start, stride, scale):
+def char_check(b, rec, mode, code, L, start, stride, scale):
     check_record(b, rec)
     if bad_start_stride(start, stride) or bad_scale(scale):
         raise Refused(15)
-    g = lookup(b, rec, code)
-    if g is None:
-        raise Refused(9)
-    info = place_glyph(b, rec, g)
-    if isinstance(info, int):
-        raise Refused(info)
+    info, by, is_default = place_char(b, rec, mode, code)
     r = glyph_picture(b, rec, info, L, start, stride, scale)
     if isinstance(r, int):
         raise Refused(r)
-    return (info, r[0], r[1]), r[2]
+    return (info, r[0], r[1], by, is_default), r[2]
 
 
-def draw_char(b, rec, code, buf, start, stride, scale, colour):
-    answer, pixels = char_check(b, rec, code, len(buf), start, stride, scale)
+def draw_char(b, rec, mode, code, buf, start, stride, scale, colour):
+    answer, pixels = char_check(b, rec, mode, code, len(buf), start, stride, scale)
     return answer, coloured(buf, pixels, colour)
 
 
-def unpack_check(b, rec, info, L, start, stride):
+def unpack_check(b, rec, mode, info, L, start, stride):
     check_record(b, rec)
     if bad_info(info) or bad_start_stride(start, stride):
         raise Refused(15)
@@ -223,6 +218,6 @@ def unpack_check(b, rec, info, L, start, stride):
     return info["height"], pixels
 
 
-def unpack_glyph(b, rec, info, buf, start, stride):
-    rows, pixels = unpack_check(b, rec, info, len(buf), start, stride)
+def unpack_glyph(b, rec, mode, info, buf, start, stride):
+    rows, pixels = unpack_check(b, rec, mode, info, len(buf), start, stride)
     return rows, coloured(buf, pixels, 1)

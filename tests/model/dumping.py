@@ -3,6 +3,7 @@ each of its lines written into a buffer."""
 from model.codes import lookup
 from model.drawing import ceil8, is_set, rows_in_data
 from model.metrics import prep_char
+from model.modes import PLAIN
 from model.refusal import Refused
 from model.strings import get_name
 from model.vetting import vet
@@ -50,7 +51,7 @@ def picture_byte(b, bm, start, k):
 
 def frame(b, rec, code):
     """the line of a code's frame, or Refused with what the code or its name lacks"""
-    info = prep_char(b, rec, code)
+    info, _, _ = prep_char(b, rec, PLAIN, code)
     g, width, height = info["glyph"], info["width"], info["height"]
     starts = rows_in_data(b, rec, g, width, height, width)
     if isinstance(starts, int):

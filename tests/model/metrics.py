@@ -1,5 +1,5 @@
 """Metrics, the font's bounds, and a glyph placed by both."""
-from model.codes import lookup
+from model.codes import serve
 from model.reads import bounds12
 from model.record import check_record
 from model.refusal import Refused
@@ -62,12 +62,18 @@ def place_glyph(b, rec, g):
             "pad_top": mx["ascent"] - m["ascent"], "pad_left": m["left"]}
 
 
-def prep_char(b, rec, code):
-    check_record(b, rec)
-    g = lookup(b, rec, code)
-    if g is None:
+def place_char(b, rec, mode, code):
+    """GlyphInfo, the code that supplied the glyph, and whether that is the default; or Refused 9, 10 or 11"""
+    served = serve(b, rec, mode, code)
+    if served is None:
         raise Refused(9)
+    g, by, is_default = served
     info = place_glyph(b, rec, g)
     if isinstance(info, int):
         raise Refused(info)
-    return info
+    return info, by, is_default
+
+
+def prep_char(b, rec, mode, code):
+    check_record(b, rec)
+    return place_char(b, rec, mode, code)

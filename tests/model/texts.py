@@ -1,5 +1,5 @@
 """Drawing a text: the pen's walk over its characters, and as for a glyph the dry run and the colouring."""
-from model.codes import lookup
+from model.codes import serve
 from model.drawing import bad_scale, bad_start_stride, coloured, glyph_picture
 from model.metrics import bounds_hold, place_glyph
 from model.record import check_record
@@ -7,7 +7,7 @@ from model.refusal import Refused
 from model.utf8 import check, utf8_step
 
 
-def text_check(b, rec, text, L, start, wrap, stride, scale):
+def text_check(b, rec, mode, text, L, start, wrap, stride, scale):
     check_record(b, rec)
     if bad_start_stride(start, stride) or bad_scale(scale):
         raise Refused(15)
@@ -34,10 +34,10 @@ def text_check(b, rec, text, L, start, wrap, stride, scale):
             x = 0
             y = y + line_height
             continue
-        g = lookup(b, rec, code)
-        if g is None:
+        served = serve(b, rec, mode, code)
+        if served is None:
             continue
-        info = place_glyph(b, rec, g)
+        info = place_glyph(b, rec, served[0])
         if isinstance(info, int):
             raise Refused(info, here)
         if wrap is not None and x + info["width"] * scale >= wrap:
@@ -54,6 +54,6 @@ def text_check(b, rec, text, L, start, wrap, stride, scale):
     return (height, dropped), all_pixels
 
 
-def draw_string(b, rec, text, buf, start, wrap, stride, scale, colour):
-    answer, pixels = text_check(b, rec, text, len(buf), start, wrap, stride, scale)
+def draw_string(b, rec, mode, text, buf, start, wrap, stride, scale, colour):
+    answer, pixels = text_check(b, rec, mode, text, len(buf), start, wrap, stride, scale)
     return answer, coloured(buf, pixels, colour)

@@ -1,6 +1,6 @@
 """Why a character is not on the glass: of the customer's reasons, in their order, the first that is true of the font,
 the code, and the place in a buffer of L pixels."""
-from model.codes import lookup
+from model.codes import serve
 from model.drawing import (bad_scale, bad_start_stride, block, cannot_draw, drawn_rows, lacks_data, place_of,
                            row_starts, set_bits)
 from model.metrics import place_glyph
@@ -24,26 +24,22 @@ REASONS = {  # in the order in which they are given
 }
 
 
-def why(b, rec, code, L, start, stride, scale):
-    """the reason's number, and how many rows are cut if that is the reason, otherwise 0"""
-    check_record(b, rec)
-    if bad_start_stride(start, stride) or bad_scale(scale):
-        raise Refused(15)
-
+def code_reason(c, code):
+    """which of the first four, of a code without a glyph"""
     if code > 65535:
-        return 31, 0
-    c = rec["codes"]
+        return 31
     one_number = c["low1"] == 0 and c["high1"] == 0
     byte1, byte2 = code // 256, code % 256
     if not one_number and not (c["low1"] <= byte1 and byte1 <= c["high1"]):
-        return 32, 0
+        return 32
     second = code if one_number else byte2
     if not (c["low2"] <= second and second <= c["high2"]):
-        return 33, 0
-    g = lookup(b, rec, code)
-    if g is None:                            # there is an entry, as tested
-        return 34, 0
+        return 33
+    return 34                                # there is an entry, as tested
 
+
+def glyph_reason(b, rec, g, L, start, stride, scale):
+    """which of the others, and how many rows are cut if that is it, otherwise 0"""
     if g >= rec["metrics"]["count"]:
         return 10, 0
     info = place_glyph(b, rec, g)
@@ -70,3 +66,17 @@ def why(b, rec, code, L, start, stride, scale):
     if bits == []:
         return 36, 0
     return 37, 0
+
+
+def why(b, rec, mode, code, L, start, stride, scale):
+    """the reason's number; how many rows are cut if that is the reason, otherwise 0; the code that supplied the glyph,
+    and whether that is the default. Without a glyph the reason is one of the first four, and speaks of the code asked
+    for."""
+    check_record(b, rec)
+    if bad_start_stride(start, stride) or bad_scale(scale):
+        raise Refused(15)
+    served = serve(b, rec, mode, code)
+    if served is None:
+        return code_reason(rec["codes"], code), 0, code, False
+    g, by, is_default = served
+    return *glyph_reason(b, rec, g, L, start, stride, scale), by, is_default

@@ -63,7 +63,7 @@ def page(b, rec, title, text, length, stride, wrap, scale, old):
     """what is written of a page, and the number that it is refused with or 0"""
     buf, number = [old] * length, 0
     try:
-        (height, dropped), buf = model.draw_string(b, rec, text, buf, 0, wrap, stride, scale, COLOUR)
+        (height, dropped), buf = model.draw_string(b, rec, model.PLAIN, text, buf, 0, wrap, stride, scale, COLOUR)
         answer = "height %d, dropped %d" % (height, dropped)
     except model.Refused as r:
         answer, number = str(r), r.number

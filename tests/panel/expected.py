@@ -61,7 +61,7 @@ def request(kind, width, height, scale, wrap, text, font):
 def drawn(font, width, height, scale, wrap, text):
     """the height, the rows dropped, and the rows of pixels; or Refused"""
     buf = [0] * (width * height)
-    (high, dropped), buf = model.draw_string(font, model.vet(font), text, buf, 0, wrap, width, scale, 1)
+    (high, dropped), buf = model.draw_string(font, model.vet(font), model.PLAIN, text, buf, 0, wrap, width, scale, 1)
     return high, dropped, [buf[i:i + width] for i in range(0, len(buf), width)]
 
 

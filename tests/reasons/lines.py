@@ -121,7 +121,7 @@ def of_picture(number, info, at, cut):
 
 def said(b, rec, code, at):
     """the reason's number, and its words"""
-    number, cut = model.why(b, rec, code, *at)
+    number, cut, _, _ = model.why(b, rec, model.PLAIN, code, *at)
     if number in (31, 32, 33, 34):
         return number, of_codes(number, rec["codes"], code)
     g = model.lookup(b, rec, code)

@@ -71,16 +71,16 @@ def asked(b, rec, c):
         rows, pixels = model.bitmap_check(b, rec, c["g"], c["width"], c["height"], *place)
         return row_words(*rows), pixels
     if call == "draw_glyph":
-        rows, pixels = model.glyph_check(b, rec, c["info"], *place)
+        rows, pixels = model.glyph_check(b, rec, model.PLAIN, c["info"], *place)
         return row_words(*rows), pixels
     if call == "draw_char":
-        (info, *rows), pixels = model.char_check(b, rec, c["code"], *place)
+        (info, *rows, _, _), pixels = model.char_check(b, rec, model.PLAIN, c["code"], *place)
         return box_words(info) + ", " + row_words(*rows), pixels
     if call == "unpack_glyph":
-        rows, pixels = model.unpack_check(b, rec, c["info"], *place[:3])
+        rows, pixels = model.unpack_check(b, rec, model.PLAIN, c["info"], *place[:3])
         return "rows %d" % rows, pixels
     if call == "draw_string":
-        extent, pixels = model.text_check(b, rec, c["text"], *place[:2], c["wrap"], *place[2:])
+        extent, pixels = model.text_check(b, rec, model.PLAIN, c["text"], *place[:2], c["wrap"], *place[2:])
         return "height %d, dropped %d" % extent, pixels
     # show_glyph: as draw_glyph of a record that passes its test, but asks no limit
     seen = model.glyph_picture(b, rec, c["info"], *place)
@@ -96,7 +96,7 @@ def place_of(c):
 def reason(b, rec, c):
     """of a character: the number of the reason, or of the refusal to tell one; rows cut; both in words"""
     try:
-        number, cut = model.why(b, rec, c["code"], *place_of(c))
+        number, cut, _, _ = model.why(b, rec, model.PLAIN, c["code"], *place_of(c))
     except model.Refused as r:
         return r.number, 0, str(r)
     return number, cut, "%d, cut %d" % (number, cut)
@@ -105,7 +105,7 @@ def reason(b, rec, c):
 def left_by_drawing(b, rec, c):
     """the reasons that are left by what draw_char answers to the same call, and how many rows are cut"""
     try:
-        (info, _, dropped), pixels = model.char_check(b, rec, c["code"], *place_of(c))
+        (info, _, dropped, _, _), pixels = model.char_check(b, rec, model.PLAIN, c["code"], *place_of(c))
     except model.Refused as r:
         return WITHOUT_GLYPH if r.number == 9 else (r.number,), 0
     if info["glyph"] >= rec["bitmaps"]["count"]:
@@ -136,7 +136,7 @@ def read_numbers(b, rec, c):
     if call == "prop_at":
         return model.prop_at(b, rec, c["code"])
     if call == "get_glyph":
-        return [model.get_glyph(b, rec, c["code"])]
+        return [model.get_glyph(b, rec, model.PLAIN, c["code"])[0]]
     if call == "get_name":
         return model.get_name(b, rec, c["g"])
     if call == "get_metrics":
@@ -149,7 +149,7 @@ def read_numbers(b, rec, c):
 def found(b, rec, c):
     """the answer in words of a call that draws nothing"""
     if c["call"] == "prep_char":
-        return box_words(model.prep_char(b, rec, c["code"]))
+        return box_words(model.prep_char(b, rec, model.PLAIN, c["code"])[0])
     if c["call"] == "step_at":
         step = model.utf8_step(c["text"], c["start"])
         return "end" if step is None else "code %d, next %d" % step

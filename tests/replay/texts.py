@@ -248,7 +248,7 @@ def steps():
 def end_of(b, call):
     """the first place behind a text in an endless buffer"""
     try:
-        _, seen = model.text_check(b, model.load(b), call["text"], 10 ** 9, call["start"], call["wrap"],
+        _, seen = model.text_check(b, model.load(b), model.PLAIN, call["text"], 10 ** 9, call["start"], call["wrap"],
                                    call["stride"], call["scale"])
     except model.Refused:
         seen = []
