@@ -9,6 +9,10 @@ def text_of(c):
     return (c["text"] + piece * times).encode("latin-1")
 
 
+def mode_of(c):
+    return model.mode_of(c.get("mode", 0))
+
+
 def lent(c):
     """the buffer that a case lends, None where it lends none: `why` is told a length and lent no buffer"""
     return [OLD] * c["len"] if "len" in c and c["call"] != "why" else None
@@ -16,7 +20,7 @@ def lent(c):
 
 def ask(call, font, rec, c):
     """(values, new buffer or None) of a call that is not refused"""
-    old = lent(c)
+    old, mode = lent(c), mode_of(c)
     place = [old] + [c[k] for k in ("start", "stride", "scale") if k in c]
     if call == "load":
         return model.flat_record(model.load(font)), None
@@ -25,7 +29,7 @@ def ask(call, font, rec, c):
     if call == "vet":
         return model.flat_record(model.vet(font)), None
     if call == "get_glyph":
-        return [model.get_glyph(font, rec, c["code"])], None
+        return model.get_glyph(font, rec, mode, c["code"]), None
     if call == "prop_at":
         return model.prop_at(font, rec, c["i"]), None
     if call == "get_name":
@@ -43,20 +47,22 @@ def ask(call, font, rec, c):
     if call == "dimensions":
         return model.dimensions(font, rec), None
     if call == "prep_char":
-        return model.flat_info(model.prep_char(font, rec, c["code"])), None
+        info, *served = model.prep_char(font, rec, mode, c["code"])
+        return model.flat_info(info) + served, None
     if call == "draw_bitmap":
         return model.draw_bitmap(font, rec, c["g"], c["width"], c["height"], *place, COLOUR)
     if call == "draw_glyph":
-        return model.draw_glyph(font, rec, c["info"], *place, COLOUR)
+        return model.draw_glyph(font, rec, mode, c["info"], *place, COLOUR)
     if call == "draw_char":
-        (info, drawn, dropped), new = model.draw_char(font, rec, c["code"], *place, COLOUR)
-        return model.flat_info(info) + [drawn, dropped], new
+        (info, *rest), new = model.draw_char(font, rec, mode, c["code"], *place, COLOUR)
+        return model.flat_info(info) + rest, new
     if call == "why":
-        return model.why(font, rec, c["code"], c["len"], c["start"], c["stride"], c["scale"]), None
+        return model.why(font, rec, mode, c["code"], c["len"], c["start"], c["stride"], c["scale"]), None
     if call == "draw_string":
-        return model.draw_string(font, rec, text_of(c), old, c["start"], c["wrap"], c["stride"], c["scale"], COLOUR)
+        return model.draw_string(font, rec, mode, text_of(c), old, c["start"], c["wrap"], c["stride"], c["scale"],
+                                 COLOUR)
     if call == "unpack_glyph":
-        rows, new = model.unpack_glyph(font, rec, c["info"], *place)
+        rows, new = model.unpack_glyph(font, rec, mode, c["info"], *place)
         return [rows], new
     if call == "utf8_step":
         step = model.utf8_step(text_of(c), c["i"])

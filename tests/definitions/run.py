@@ -3,8 +3,9 @@
 tests/model: number, place, values, and every pixel or byte that changed.
 
 fonts.txt has a font a line, in hexadecimal. cases.jsonl has a case a line: the call, the font's line from 0, the
-arguments, and in "rec" what is changed in the record that loading gives (for the font "of", where that is another one).
-A text is a string of bytes 0 to 255; "more" is a piece that follows it and how many times.
+arguments, in "rec" what is changed in the record that loading gives (for the font "of", where that is another one), and
+in "mode" the mode's number, where that is not 0, the plain one. A text is a string of bytes 0 to 255; "more" is a piece
+that follows it and how many times.
 
 The definitions are computed by the prover: each case becomes an equation that holds by computation, in crates of a
 temporary folder, beside a copy of each library's types and definitions without its functions. So nothing has to be
@@ -31,6 +32,7 @@ from documents.refusals import Orders  # noqa: E402
 
 # calls that the page has under another name, and those that answer as another call does
 NAMED = {"load": "load_pcf", "utf8_step": "step_at", "dump": "print_dump"}
+MODED = ("get_glyph", "prep_char", "draw_glyph", "draw_char", "unpack_glyph", "draw_string", "why")  # take a mode
 DRY_RUNS = ("bitmap_check", "glyph_check", "char_check", "unpack_check", "text_check")
 TOPS = ("text", "why", "frames")  # the cases call definitions of these libraries and of those that they stand on
 CRATES = 4  # of cases; the prover takes them side by side
@@ -41,17 +43,22 @@ CRATES = 4  # of cases; the prover takes them side by side
 
 def unseen(cases, fonts):
     """what the cases lack: a call of the first table of docs/PROMISES.md that is no dry run, a number that a call can
-    be refused with, or an answer; and of `why` a reason"""
-    known, seen = Orders(pages.PROMISES, "Function"), collections.defaultdict(set)
+    be refused with, or an answer; and of `why` a reason; each in every mode, of a call that takes one"""
+    known = Orders(pages.PROMISES, "Function")
+    seen, reasons = collections.defaultdict(set), collections.defaultdict(set)
     for c in cases:
-        seen[known.named(NAMED.get(c["call"], c["call"]))].add(terms.number(c, fonts))
-    for call in sorted(known.first | set(seen)):
-        lacking = sorted({0, *known.order(call)} - seen[call])
-        if lacking and call[1] not in DRY_RUNS:
-            yield f"no case of {'::'.join(call)} is answered {lacking}"
-    reasons = {terms.reason(c, fonts) for c in cases if c["call"] == "why"}
-    for number in sorted(set(model.REASONS) - reasons):
-        yield f"no case of why::why has the reason {number}, {model.REASONS[number]}"
+        call, mode = known.named(NAMED.get(c["call"], c["call"])), c.get("mode", 0)
+        seen[call, mode].add(terms.number(c, fonts))
+        if c["call"] == "why":
+            reasons[mode].add(terms.reason(c, fonts))
+    for call in sorted(known.first | {call for call, _ in seen}):
+        for mode in model.MODES if call[1] in MODED else [0]:
+            lacking = sorted({0, *known.order(call)} - seen[call, mode])
+            if lacking and call[1] not in DRY_RUNS:
+                yield f"no case of {'::'.join(call)} in mode {mode} is answered {lacking}"
+    for mode in model.MODES:
+        for number in sorted(set(model.REASONS) - reasons[mode]):
+            yield f"no case of why::why in mode {mode} has the reason {number}, {model.REASONS[number]}"
 
 
 # ---- the libraries

@@ -3,7 +3,7 @@ import os
 import re
 
 import model
-from definitions.answers import answer, text_of
+from definitions.answers import answer, mode_of, text_of
 
 NO_FONT = ("utf8_step", "check", "hex_read", "fill_bytes", "put_refused", "dump")
 NO_RECORD = NO_FONT + ("load", "load_strict", "vet", "part_of")
@@ -38,6 +38,10 @@ def glyph_info(i):
             f"«pad_top» = {i['pad_top']}; «pad_left» = {i['pad_left']} }})")
 
 
+def mode(c):
+    return f"({record(mode_of(c)._asdict())})"
+
+
 def layout(c):
     wrap = "Wrap.Never" if c["wrap"] is None else f"Wrap.At {c['wrap']}"
     return f"(record {{ start = {c['start']}; wrap = {wrap}; stride = {c['stride']}; scale = {c['scale']} }})"
@@ -57,25 +61,25 @@ def term(font, rec, c):
     said = {
         "load": "saidLoaded (loaded {f})", "load_strict": "saidLoaded (loadedStrictly {f})",
         "vet": "saidVetted (vetted {f})",
-        "get_glyph": "saidFound (getGlyph {f} {r} {code})", "prop_at": "saidProp (propAt {f} {r} {i})",
+        "get_glyph": "saidServed (getGlyph {f} {r} {m} {code})", "prop_at": "saidProp (propAt {f} {r} {i})",
         "get_name": "saidNamed (getName {f} {r} {g})", "get_metrics": "saidMeasured (getMetrics {f} {r} {g})",
         "get_accelerators": "saidAccelerated (getAccelerators {f} {r})",
-        "dimensions": "saidSized (dimensions {f} {r})", "prep_char": "saidPrepared (prepChar {f} {r} {code})",
+        "dimensions": "saidSized (dimensions {f} {r})", "prep_char": "saidPlaced (prepChar {f} {r} {m} {code})",
         "utf8_step": "saidStep (stepAt {t} {i})", "check": "saidChecked (checkedText {t})",
         "hex_read": "saidHex (hexRead {t})",
-        "why": "saidTold (whyOf {f} {r} {code} {len} (placeAt {start} {stride} {scale}))",
+        "why": "saidTold (whyOf {f} {r} {m} {code} {len} (placeAt {start} {stride} {scale}))",
     }
     lent = {
         "draw_bitmap": "bitmap {f} {r} {g} {width} {height} {len} {start} {stride} {scale}",
-        "draw_glyph": "glyph {f} {r} {box} {len} {start} {stride} {scale}",
-        "draw_char": "char {f} {r} {code} {len} {start} {stride} {scale}",
-        "draw_string": "string {f} {r} {t} {len} {lay}",
-        "unpack_glyph": "unpack {f} {r} {box} {len} {start} {stride}",
+        "draw_glyph": "glyph {f} {r} {m} {box} {len} {start} {stride} {scale}",
+        "draw_char": "char {f} {r} {m} {code} {len} {start} {stride} {scale}",
+        "draw_string": "string {f} {r} {m} {t} {len} {lay}",
+        "unpack_glyph": "unpack {f} {r} {m} {box} {len} {start} {stride}",
         "fill_bytes": "fillBytes {t} {len}",
         "put_frame": "putFrame {f} {r} {code} {len}", "put_refused": "putRefused {number} {len}",
         "name_bytes": "nameOfGlyph {f} {r} {g}", "part_of": "part {f} {span}",
     }
-    names = dict(c, f=font, r=rec, t=text)
+    names = dict(c, f=font, r=rec, t=text, m=mode(c))
     if "info" in c:
         names["box"] = glyph_info(c["info"])
     if "count" in c:

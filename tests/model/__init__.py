@@ -13,7 +13,7 @@ from model.dumping import dump, fill_bytes, hex_read, put_frame, put_refused
 from model.flattening import METRIC_FIELDS, flat_accel, flat_info, flat_metrics, flat_record
 from model.loading import load
 from model.metrics import dimensions, get_accelerators, get_metrics, metrics_at, prep_char
-from model.modes import PLAIN, Mode, is_known, mode_of
+from model.modes import MODES, PLAIN, Mode, is_known, mode_of
 from model.record import changed, check_record
 from model.refusal import Refused
 from model.strings import get_name, name_bytes, part_of, prop_at

@@ -8,11 +8,11 @@ class Mode(NamedTuple):
 
 
 PLAIN = Mode()
+MODES = range(2 ** len(Mode._fields))        # every number in which no other bit is set
 
 
 def is_known(number):
-    """whether every bit that is set is a field's"""
-    return 0 <= number < 2 ** len(Mode._fields)
+    return number in MODES
 
 
 def mode_of(number):
