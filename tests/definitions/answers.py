@@ -22,6 +22,12 @@ def ask(call, font, rec, c):
     """(values, new buffer or None) of a call that is not refused"""
     old, mode = lent(c), mode_of(c)
     place = [old] + [c[k] for k in ("start", "stride", "scale") if k in c]
+    if call == "plain":
+        return model.PLAIN, None
+    if call == "is_known":
+        return [model.is_known(c["number"])], None
+    if call == "mode_of":
+        return model.mode_of(c["number"]), None
     if call == "load":
         return model.flat_record(model.load(font)), None
     if call == "load_strict":

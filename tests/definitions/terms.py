@@ -5,7 +5,7 @@ import re
 import model
 from definitions.answers import answer, mode_of, text_of
 
-NO_FONT = ("utf8_step", "check", "hex_read", "fill_bytes", "put_refused", "dump")
+NO_FONT = ("utf8_step", "check", "hex_read", "fill_bytes", "put_refused", "dump", "plain", "is_known", "mode_of")
 NO_RECORD = NO_FONT + ("load", "load_strict", "vet", "part_of")
 
 with open(os.path.join(os.path.dirname(os.path.abspath(__file__)), "seen.txt"), encoding="utf-8") as f:
@@ -77,6 +77,7 @@ def term(font, rec, c):
         "unpack_glyph": "unpack {f} {r} {m} {box} {len} {start} {stride}",
         "fill_bytes": "fillBytes {t} {len}",
         "put_frame": "putFrame {f} {r} {code} {len}", "put_refused": "putRefused {number} {len}",
+        "plain": "fields plain", "is_known": "bits (isKnown {number} ∷ [])", "mode_of": "fields (modeOf {number})",
         "name_bytes": "nameOfGlyph {f} {r} {g}", "part_of": "part {f} {span}",
     }
     names = dict(c, f=font, r=rec, t=text, m=mode(c))
