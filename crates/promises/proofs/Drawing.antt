@@ -1,6 +1,6 @@
 -- Every call that draws keeps to what `Keeps` says.
 use Prim.Native.Nat.{ℕ, _≤_}
-use mathlib.Core.Path.{_≡_, refl, sym, ap, _∙_}
+use mathlib.Core.Path.{_≡_, refl, sym, ap, _∙_, ap₂}
 use mathlib.Core.Bool.{Bool, true, false, cond}
 use mathlib.Core.List.{List}
 use native.Mathlib.Omega.{arith}
@@ -12,6 +12,8 @@ use Rattle.tables.specs.Fits.{permitted}
 use Rattle.tables.specs.declared.BitmapData.{BitmapData}
 use Rattle.tables.specs.declared.Permit.{Permit}
 use Rattle.tables.specs.declared.Record.{Record}
+use Rattle.modes.specs.declared.Mode.{Mode}
+use Rattle.lookup.specs.declared.Supplier.{Supplier}
 use Rattle.bitmaps.specs.Paint.{painted}
 use Rattle.bitmaps.specs.Place.{Place}
 use Rattle.bitmaps.specs.Cut.{drawnRows}
@@ -27,7 +29,7 @@ use Rattle.bitmaps.proofs.CutRule.{drawn-within}
 use Rattle.bitmaps.proofs.NoDots.{none-found}
 use Rattle.outcome.proofs.Answered.{is-drawn, is-unpacked, shown-rows, unpacked-rows}
 use Rattle.place.specs.declared.GlyphInfo.{GlyphInfo}
-use Rattle.place.specs.declared.Prepared.{Prepared}
+use Rattle.place.specs.declared.CharPrepared.{CharPrepared}
 use Rattle.glyphs.specs.Glyph.{placeOf, nothingDrawn, glyphDrawn, inInfo, glyphReady, drawGlyph}
 use Rattle.glyphs.specs.Char.{withInfo, charOf, charReady, drawChar, saidChar}
 use Rattle.glyphs.specs.Unpack.{glyphUnpacked, unpackGlyph}
@@ -175,17 +177,17 @@ module _ (s : List ℕ) (rec : Record) (at : Place) where
 
   -- ---- draw_glyph
 
-  module _ (i : GlyphInfo) (colour : ℕ) where
+  module _ (mode : Mode) (i : GlyphInfo) (colour : ℕ) where
     abbrev glyphRule : Drawn → ℕ → Bool
     glyphRule = rowsRule s (rec .bitmaps) (i .glyph .0) (i .width) (placeOf i at)
 
     abbrev glyphAnswer : ℕ → Drawn
-    glyphAnswer len = drawGlyph s rec i len at
+    glyphAnswer len = drawGlyph s rec mode i len at
 
     glyph-told : (len : ℕ) (r : Rows) → glyphAnswer len ≡ Drawn.Rows r → glyphDrawn s (rec .bitmaps) i len at ≡ Drawn.Rows r
     unfolding drawGlyph
     glyph-told len r e =
-        past-tests Drawn.Refused (glyphReady s rec i at) (glyphDrawn s (rec .bitmaps) i len at) (Drawn.Rows r) (is-drawn r) e
+        past-tests Drawn.Refused (glyphReady s rec mode i at) (glyphDrawn s (rec .bitmaps) i len at) (Drawn.Rows r) (is-drawn r) e
 
     glyph-in : (len : ℕ) (a : Drawn) → glyphAnswer len ≡ a → (k : ℕ) → len ≤ k → glyphRule a k ≡ false
     glyph-in len (Drawn.Rows r) e k h = glyph-inside s (rec .bitmaps) i at len r (glyph-told len r e) k h
@@ -195,10 +197,10 @@ module _ (s : List ℕ) (rec : Record) (at : Place) where
     glyph-all len (Drawn.Rows r) e t = glyph-whole s (rec .bitmaps) i at len r (glyph-told len r e) t
     glyph-all len (Drawn.Refused r) e t = never t
 
-    pub glyph-keeps : Keeps (glyphCall s rec at i colour)
+    pub glyph-keeps : Keeps (glyphCall s rec at mode i colour)
     glyph-keeps =
         let there = placeOf i at in
-        by-rule (glyphCall s rec at i colour) glyphRule (rows-painted s (rec .bitmaps) (i .glyph .0) (i .width) there colour)
+        by-rule (glyphCall s rec at mode i colour) glyphRule (rows-painted s (rec .bitmaps) (i .glyph .0) (i .width) there colour)
         (rows-lit s (rec .bitmaps) (i .glyph .0) (i .width) there) (rows-found s (rec .bitmaps) (i .glyph .0) (i .width) there)
         (rows-none s (rec .bitmaps) (i .glyph .0) (i .width) there)
         (λ len. glyph-in len (glyphAnswer len) refl)
@@ -206,94 +208,94 @@ module _ (s : List ℕ) (rec : Record) (at : Place) where
 
   -- ---- draw_char
 
-  module _ (code colour : ℕ) where
+  module _ (mode : Mode) (code colour : ℕ) where
     abbrev charRule : CharDrawn → ℕ → Bool
-    charRule (CharDrawn.Glyph i r) k = inInfo s (rec .bitmaps) i at (r .drawn) k
+    charRule (CharDrawn.Glyph i r by) k = inInfo s (rec .bitmaps) i at (r .drawn) k
     charRule (CharDrawn.Refused r) k = false
 
     abbrev charAnswer : ℕ → CharDrawn
-    charAnswer len = drawChar s rec code len at
+    charAnswer len = drawChar s rec mode code len at
 
-    of-char : (j i : GlyphInfo) (r : Rows) (d : Drawn) → charOf j d ≡ CharDrawn.Glyph i r → (j ≡ i) × (d ≡ Drawn.Rows r)
-    of-char j i r (Drawn.Rows x) e = let a : j ≡ i = cc in let b : x ≡ r = cc in (a, ap Drawn.Rows b)
-    of-char j i r (Drawn.Refused x) e = let z : _≡_ {A = ℕ} 0 1 = cc in absurd (omega arith)
+    of-char : (j i : GlyphInfo) (p by : Supplier) (r : Rows) (d : Drawn) → charOf j p d ≡ CharDrawn.Glyph i r by → (j ≡ i) × (p ≡ by) × (d ≡ Drawn.Rows r)
+    of-char j i p by r (Drawn.Rows x) e = let a : j ≡ i = cc in let b : x ≡ r = cc in let c : p ≡ by = cc in (a, c, ap Drawn.Rows b)
+    of-char j i p by r (Drawn.Refused x) e = let z : _≡_ {A = ℕ} 0 1 = cc in absurd (omega arith)
 
-    of-info : (len : ℕ) (i : GlyphInfo) (r : Rows) (q : Prepared)
-        → withInfo q (λ j. charOf j (glyphDrawn s (rec .bitmaps) j len at)) ≡ CharDrawn.Glyph i r
-        → (q ≡ Prepared.Info i) × (glyphDrawn s (rec .bitmaps) i len at ≡ Drawn.Rows r)
-    of-info len i r (Prepared.Info j) e =
-        let (same, drawn) = of-char j i r (glyphDrawn s (rec .bitmaps) j len at) e in
-        (ap Prepared.Info same, ap (λ (x : GlyphInfo). glyphDrawn s (rec .bitmaps) x len at) (sym same) ∙ drawn)
-    of-info len i r (Prepared.Refused x) e = let z : _≡_ {A = ℕ} 0 1 = cc in absurd (omega arith)
+    of-info : (len : ℕ) (i : GlyphInfo) (r : Rows) (by : Supplier) (q : CharPrepared)
+        → withInfo q (λ j p. charOf j p (glyphDrawn s (rec .bitmaps) j len at)) ≡ CharDrawn.Glyph i r by
+        → (q ≡ CharPrepared.Info i by) × (glyphDrawn s (rec .bitmaps) i len at ≡ Drawn.Rows r)
+    of-info len i r by (CharPrepared.Info j p) e =
+        let (same, supplier, drawn) = of-char j i p by r (glyphDrawn s (rec .bitmaps) j len at) e in
+        (ap₂ CharPrepared.Info same supplier, ap (λ (x : GlyphInfo). glyphDrawn s (rec .bitmaps) x len at) (sym same) ∙ drawn)
+    of-info len i r by (CharPrepared.Refused x) e = let z : _≡_ {A = ℕ} 0 1 = cc in absurd (omega arith)
 
-    char-told : (len : ℕ) (i : GlyphInfo) (r : Rows) → charAnswer len ≡ CharDrawn.Glyph i r
-        → (charReady s rec code at ≡ Prepared.Info i) × (glyphDrawn s (rec .bitmaps) i len at ≡ Drawn.Rows r)
+    char-told : (len : ℕ) (i : GlyphInfo) (r : Rows) (by : Supplier) → charAnswer len ≡ CharDrawn.Glyph i r by
+        → (charReady s rec mode code at ≡ CharPrepared.Info i by) × (glyphDrawn s (rec .bitmaps) i len at ≡ Drawn.Rows r)
     unfolding drawChar
-    char-told len i r e = of-info len i r (charReady s rec code at) e
+    char-told len i r by e = of-info len i r by (charReady s rec mode code at) e
 
-    char-is : (a : CharDrawn) (old : List ℕ) → charCall s rec at code colour .leaves a old ≡ painted (charRule a) colour old
-    char-is (CharDrawn.Glyph i r) old = refl
+    char-is : (a : CharDrawn) (old : List ℕ) → charCall s rec at mode code colour .leaves a old ≡ painted (charRule a) colour old
+    char-is (CharDrawn.Glyph i r by) old = refl
     char-is (CharDrawn.Refused r) old = sym (painted-none (λ k. false) colour old (λ k h. refl))
 
     char-lit : (a : CharDrawn) (k : ℕ) → charColoured s (rec .bitmaps) at a k → charRule a k ≡ true
-    char-lit (CharDrawn.Glyph i r) k l =
+    char-lit (CharDrawn.Glyph i r by) k l =
         lit-dot (glyphBit s (rec .bitmaps) (i .glyph .0) (i .width)) (placeOf i at) (i .width) (r .drawn) k l
     char-lit (CharDrawn.Refused r) k l = absurd l
 
     char-found : (a : CharDrawn) (k : ℕ) → charRule a k ≡ true → charColoured s (rec .bitmaps) at a k
-    char-found (CharDrawn.Glyph i r) k t =
+    char-found (CharDrawn.Glyph i r by) k t =
         found-dot (glyphBit s (rec .bitmaps) (i .glyph .0) (i .width)) (placeOf i at) (i .width) (r .drawn) k t
     char-found (CharDrawn.Refused r) k t = never t
 
     char-none : (a : CharDrawn) → (saidChar a .number ≡ 0 → ⊥) → (k : ℕ) → charRule a k ≡ false
-    char-none (CharDrawn.Glyph i r) e k = absurd (e refl)
+    char-none (CharDrawn.Glyph i r by) e k = absurd (e refl)
     char-none (CharDrawn.Refused r) e k = refl
 
     char-in : (len : ℕ) (a : CharDrawn) → charAnswer len ≡ a → (k : ℕ) → len ≤ k → charRule a k ≡ false
-    char-in len (CharDrawn.Glyph i r) e k h = glyph-inside s (rec .bitmaps) i at len r (char-told len i r e .1) k h
+    char-in len (CharDrawn.Glyph i r by) e k h = glyph-inside s (rec .bitmaps) i at len r (char-told len i r by e .1) k h
     char-in len (CharDrawn.Refused r) e k h = refl
 
-    abbrev allChar : Prepared → CharDrawn
-    allChar q = withInfo q (λ j. charOf j (allGlyph s (rec .bitmaps) j at))
+    abbrev allChar : CharPrepared → CharDrawn
+    allChar q = withInfo q (λ j p. charOf j p (allGlyph s (rec .bitmaps) j at))
 
-    char-all : (len : ℕ) (a : CharDrawn) → charAnswer len ≡ a → wholeChar a ≡ true → a ≡ allChar (charReady s rec code at)
-    char-all len (CharDrawn.Glyph i r) e t =
-        let (is, drawn) = char-told len i r e in
-        ap (charOf i) (glyph-whole s (rec .bitmaps) i at len r drawn t) ∙ ap allChar (sym is)
+    char-all : (len : ℕ) (a : CharDrawn) → charAnswer len ≡ a → wholeChar a ≡ true → a ≡ allChar (charReady s rec mode code at)
+    char-all len (CharDrawn.Glyph i r by) e t =
+        let (is, drawn) = char-told len i r by e in
+        ap (charOf i by) (glyph-whole s (rec .bitmaps) i at len r drawn t) ∙ ap allChar (sym is)
     char-all len (CharDrawn.Refused r) e t = never t
 
-    pub char-keeps : Keeps (charCall s rec at code colour)
+    pub char-keeps : Keeps (charCall s rec at mode code colour)
     char-keeps =
-        by-rule (charCall s rec at code colour) charRule char-is char-lit char-found char-none
+        by-rule (charCall s rec at mode code colour) charRule char-is char-lit char-found char-none
         (λ len. char-in len (charAnswer len) refl)
         (λ len more e f. char-all more (charAnswer more) refl f ∙ sym (char-all len (charAnswer len) refl e))
 
 -- ---- unpack_glyph
 
-module _ (s : List ℕ) (rec : Record) (start stride : ℕ) (i : GlyphInfo) where
+module _ (s : List ℕ) (rec : Record) (mode : Mode) (start stride : ℕ) (i : GlyphInfo) where
   abbrev unpackRule : Unpacked → ℕ → Bool
   unpackRule (Unpacked.Rows n) k = inUnpacked s (rec .bitmaps) (i .glyph .0) (i .width) (placeOf i (unscaled start stride) .p) stride n k
   unpackRule (Unpacked.Refused r) k = false
 
   abbrev unpackAnswer : ℕ → Unpacked
-  unpackAnswer len = unpackGlyph s rec i len start stride
+  unpackAnswer len = unpackGlyph s rec mode i len start stride
 
   unpack-told : (len n : ℕ) → unpackAnswer len ≡ Unpacked.Rows n → glyphUnpacked s (rec .bitmaps) i len start stride ≡ Unpacked.Rows n
   unfolding unpackGlyph
   unpack-told len n e =
-      past-tests Unpacked.Refused (glyphReady s rec i (unscaled start stride)) (glyphUnpacked s (rec .bitmaps) i len start stride) (Unpacked.Rows n)
+      past-tests Unpacked.Refused (glyphReady s rec mode i (unscaled start stride)) (glyphUnpacked s (rec .bitmaps) i len start stride) (Unpacked.Rows n)
       (is-unpacked n) e
 
-  unpack-is : (a : Unpacked) (old : List ℕ) → unpackCall s rec start stride i .leaves a old ≡ painted (unpackRule a) 1 old
+  unpack-is : (a : Unpacked) (old : List ℕ) → unpackCall s rec mode start stride i .leaves a old ≡ painted (unpackRule a) 1 old
   unpack-is (Unpacked.Rows n) old = refl
   unpack-is (Unpacked.Refused r) old = sym (painted-none (λ k. false) 1 old (λ k h. refl))
 
-  unpack-lit : (a : Unpacked) (k : ℕ) → unpackCall s rec start stride i .coloured a k → unpackRule a k ≡ true
+  unpack-lit : (a : Unpacked) (k : ℕ) → unpackCall s rec mode start stride i .coloured a k → unpackRule a k ≡ true
   unpack-lit (Unpacked.Rows n) k l =
       lit-dot (glyphBit s (rec .bitmaps) (i .glyph .0) (i .width)) (placeOf i (unscaled start stride)) (wholeColumns (i .width)) n k l
   unpack-lit (Unpacked.Refused r) k l = absurd l
 
-  unpack-found : (a : Unpacked) (k : ℕ) → unpackRule a k ≡ true → unpackCall s rec start stride i .coloured a k
+  unpack-found : (a : Unpacked) (k : ℕ) → unpackRule a k ≡ true → unpackCall s rec mode start stride i .coloured a k
   unpack-found (Unpacked.Rows n) k t =
       found-dot (glyphBit s (rec .bitmaps) (i .glyph .0) (i .width)) (placeOf i (unscaled start stride)) (wholeColumns (i .width)) n k t
   unpack-found (Unpacked.Refused r) k t = never t
@@ -310,8 +312,8 @@ module _ (s : List ℕ) (rec : Record) (start stride : ℕ) (i : GlyphInfo) wher
   unpack-all len (Unpacked.Rows n) e t = unpacked-whole s (rec .bitmaps) i start stride len n (unpack-told len n e)
   unpack-all len (Unpacked.Refused r) e t = never t
 
-  pub unpack-keeps : Keeps (unpackCall s rec start stride i)
+  pub unpack-keeps : Keeps (unpackCall s rec mode start stride i)
   unpack-keeps =
-      by-rule (unpackCall s rec start stride i) unpackRule unpack-is unpack-lit unpack-found unpack-none
+      by-rule (unpackCall s rec mode start stride i) unpackRule unpack-is unpack-lit unpack-found unpack-none
       (λ len. unpack-in len (unpackAnswer len) refl)
       (λ len more e f. unpack-all more (unpackAnswer more) refl f ∙ sym (unpack-all len (unpackAnswer len) refl e))

@@ -11,8 +11,9 @@ use Rattle.tables.specs.declared.BitmapData.{BitmapData}
 use Rattle.tables.specs.declared.Permit.{Permit}
 use Rattle.tables.specs.declared.Record.{Record}
 use Rattle.modes.specs.declared.Mode.{Mode}
-use Rattle.lookup.specs.Lookup.{glyphOf}
-use Rattle.lookup.specs.declared.Found.{Found}
+use Rattle.lookup.specs.Served.{served}
+use Rattle.lookup.specs.declared.Served.{Served}
+use Rattle.lookup.specs.declared.Supplier.{Supplier}
 use Rattle.bitmaps.specs.Place.{Place, placeAt}
 use Rattle.bitmaps.specs.Limits.{okPlace, okPair}
 use Rattle.bitmaps.specs.Cut.{drawnRows}
@@ -22,8 +23,9 @@ use Rattle.bitmaps.specs.Unpack.{unscaled, wholeColumns, unpackedAt, saidUnpack
 use Rattle.bitmaps.specs.declared.Drawn.{Drawn}
 use Rattle.bitmaps.specs.declared.Unpacked.{Unpacked}
 use Rattle.place.specs.Bounds.{boundsOf, boundsHold}
-use Rattle.place.specs.Info.{infoIn, preparedIn, ofPlacing, saidPrepared}
+use Rattle.place.specs.Info.{infoIn, prepared, ofPlacing, saidPrepared, saidPlaced as saidPlacedChar}
 use Rattle.place.specs.declared.GlyphInfo.{GlyphInfo}
+use Rattle.place.specs.declared.CharPrepared.{CharPrepared}
 use Rattle.place.specs.declared.Prepared.{Prepared}
 use Rattle.place.proofs.Refusals.{info-of-refusals, char-info-refusals}
 use Rattle.glyphs.specs.Glyph.{placeOf, okInfo, glyphDrawn, glyphReady, drawGlyph}
@@ -73,10 +75,10 @@ module _ (s : List ℕ) (rec : Record) (mode : Mode) (lay : Layout) (len : ℕ) 
   placed-refusals : (code : ℕ) (pen : Pen) → NumberedBy (ofPlacing ++ ofDrawing) (saidPlaced (placed s rec mode lay code pen))
   unfolding placed placedDrawn
   placed-refusals code pen =
-      whichever saidPlaced (eqb code 13) has-values (whichever saidPlaced (eqb code 10) has-values (by (glyphOf s (rec .codes) code))) where
-        by : (x : Found) → NumberedBy (ofPlacing ++ ofDrawing) (saidPlaced (placeFound s rec lay pen x))
-        by (Found.Glyph g) = place-info pen (infoIn s rec g) (info-of-refusals s (rec .metrics) (boundsOf rec) g)
-        by (Found.Refused r) = has-values
+      whichever saidPlaced (eqb code 13) has-values (whichever saidPlaced (eqb code 10) has-values (by (served s (rec .codes) mode code))) where
+        by : (x : Served) → NumberedBy (ofPlacing ++ ofDrawing) (saidPlaced (placeFound s rec lay pen x))
+        by (Served.Glyph g p) = place-info pen (infoIn s rec g) (info-of-refusals s (rec .metrics) (boundsOf rec) g)
+        by (Served.Refused r) = has-values
 
   after-char : (x : Drawn) (byte : ℕ) (rest : ℕ → TextDrawn) → NumberedBy (ofPlacing ++ ofDrawing) (saidDrawn x)
       → ((n : ℕ) → NumberedBy (ofPlacing ++ ofDrawing) (saidText (rest n))) → NumberedBy (ofPlacing ++ ofDrawing) (saidText (afterChar x byte rest))
@@ -106,7 +108,7 @@ module _ (s : List ℕ) (rec : Record) where
         (cond (noBitmap (rec .bitmaps) g) (Permit.Refused (refusal 12 0)) Permit.Given) refl
         (λ fits. whichever saidBitmap (noBitmap (rec .bitmaps) g) (has-number refl) (one-more (shown-at-refusals s (rec .bitmaps) g width height len at)))
 
-  module _ (i : GlyphInfo) (len : ℕ) where
+  module _ (mode : Mode) (i : GlyphInfo) (len : ℕ) where
     module _ (at : Place) where
       abbrev saidGlyph : Permit → Said
       saidGlyph x = saidDrawn (permitted Drawn.Refused x (glyphDrawn s (rec .bitmaps) i len at))
@@ -114,7 +116,7 @@ module _ (s : List ℕ) (rec : Record) where
       pub draw-glyph-refusals : Refusals s rec (6 ∷ 15 ∷ ofDrawing) (saidDrawn (drawGlyph s rec mode i len at))
       unfolding drawGlyph glyphReady ladder
       draw-glyph-refusals =
-          guarded-refusals s rec saidGlyph Permit.Refused (λ r. refl) (okPlace at && okInfo i) Permit.Given refl
+          guarded-refusals s rec saidGlyph Permit.Refused (λ r. refl) (okPlace at && okInfo mode i) Permit.Given refl
           (λ fits. glyph-drawn-refusals s (rec .bitmaps) i len at)
 
     module _ (start stride : ℕ) where
@@ -135,28 +137,29 @@ module _ (s : List ℕ) (rec : Record) where
       pub unpack-glyph-refusals : Refusals s rec (6 ∷ 15 ∷ ofDrawing) (saidUnpacked (unpackGlyph s rec mode i len start stride))
       unfolding unpackGlyph glyphReady ladder
       unpack-glyph-refusals =
-          guarded-refusals s rec saidUnpack Permit.Refused (λ r. refl) (okPlace (unscaled start stride) && okInfo i) Permit.Given refl
+          guarded-refusals s rec saidUnpack Permit.Refused (λ r. refl) (okPlace (unscaled start stride) && okInfo mode i) Permit.Given refl
           (λ fits. glyph-unpacked-refusals)
 
-  module _ (code len : ℕ) (at : Place) where
-    abbrev saidWith : Prepared → Said
-    saidWith x = saidChar (withInfo x (λ i. charOf i (glyphDrawn s (rec .bitmaps) i len at)))
+  module _ (mode : Mode) (code len : ℕ) (at : Place) where
+    abbrev saidWith : CharPrepared → Said
+    saidWith x = saidChar (withInfo x (λ i by. charOf i by (glyphDrawn s (rec .bitmaps) i len at)))
 
-    drawn-char : (i : GlyphInfo) (x : Drawn) → NumberedBy ofDrawing (saidDrawn x) → NumberedBy (9 ∷ (ofPlacing ++ ofDrawing)) (saidChar (charOf i x))
-    drawn-char i (Drawn.Rows r) h = has-values
-    drawn-char i (Drawn.Refused r) h = wider refl h
+    drawn-char : (i : GlyphInfo) (by : Supplier) (x : Drawn) → NumberedBy ofDrawing (saidDrawn x)
+        → NumberedBy (9 ∷ (ofPlacing ++ ofDrawing)) (saidChar (charOf i by x))
+    drawn-char i by (Drawn.Rows r) h = has-values
+    drawn-char i by (Drawn.Refused r) h = wider refl h
 
-    placed-char : (x : Prepared) → NumberedBy (9 ∷ ofPlacing) (saidPrepared x) → NumberedBy (9 ∷ (ofPlacing ++ ofDrawing)) (saidWith x)
-    placed-char (Prepared.Info i) h = drawn-char i (glyphDrawn s (rec .bitmaps) i len at) (glyph-drawn-refusals s (rec .bitmaps) i len at)
-    placed-char (Prepared.Refused r) h = wider refl h
+    placed-char : (x : CharPrepared) → NumberedBy (9 ∷ ofPlacing) (saidPlacedChar x) → NumberedBy (9 ∷ (ofPlacing ++ ofDrawing)) (saidWith x)
+    placed-char (CharPrepared.Info i by) h = drawn-char i by (glyphDrawn s (rec .bitmaps) i len at) (glyph-drawn-refusals s (rec .bitmaps) i len at)
+    placed-char (CharPrepared.Refused r) h = wider refl h
 
     pub draw-char-refusals : Refusals s rec (6 ∷ 15 ∷ 9 ∷ (ofPlacing ++ ofDrawing)) (saidChar (drawChar s rec mode code len at))
     unfolding drawChar charReady
     draw-char-refusals =
-        guarded-refusals s rec saidWith Prepared.Refused (λ r. refl) (okPlace at) (preparedIn s rec code) refl
-        (λ fits. placed-char (preparedIn s rec code) (char-info-refusals s (rec .codes) (rec .metrics) (boundsOf rec) code))
+        guarded-refusals s rec saidWith CharPrepared.Refused (λ r. refl) (okPlace at) (prepared s rec mode code) refl
+        (λ fits. placed-char (prepared s rec mode code) (char-info-refusals s rec mode code))
 
-  module _ (text : List ℕ) (len : ℕ) (lay : Layout) where
+  module _ (mode : Mode) (text : List ℕ) (len : ℕ) (lay : Layout) where
     -- what the tests before the first character say, with the rest
     abbrev saidReady : Ready → Said
     saidReady x = saidText (whenReady x (textFrom s rec mode lay len (charsOf (decoded text)) origin 0))

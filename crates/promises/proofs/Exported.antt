@@ -1,7 +1,7 @@
 -- What a caller in C reads off an exported function's answer is what document 01 says of the library's: number and place on a refusal, and
 -- the values where `refusal` is 0.
 use mathlib.Core.Path.{_≡_, refl}
-use mathlib.Core.Bool.{cond}
+use mathlib.Core.Bool.{true, cond}
 use mathlib.Core.List.{List}
 use Prim.Native.Nat.{ℕ, zero, suc}
 use lib.IntN.{ℤ}
@@ -9,13 +9,14 @@ use Rattle.reads.specs.Said.{refusal, refuses}
 use Rattle.reads.proofs.Numbers.{nought-answers}
 use Rattle.tables.specs.Fits.{guarded}
 use Rattle.tables.specs.declared.Record.{Record}
+use Rattle.modes.specs.Modes.{isKnown, modeOf}
 use Rattle.modes.specs.declared.Mode.{Mode}
 use Rattle.load.specs.Load.{loaded, loadedStrictly, saidLoaded}
 use Rattle.load.specs.declared.Loaded.{Loaded}
 use Rattle.vet.specs.Vet.{vetted, saidVetted}
 use Rattle.vet.specs.declared.Vetted.{Vetted}
-use Rattle.lookup.specs.Lookup.{glyphOf, saidFound}
-use Rattle.lookup.specs.declared.Found.{Found}
+use Rattle.lookup.specs.Served.{served, saidServed}
+use Rattle.lookup.specs.declared.Served.{Served}
 use Rattle.names.specs.Names.{getName, saidNamed}
 use Rattle.names.specs.declared.Named.{Named}
 use Rattle.names.specs.declared.Span.{Span}
@@ -31,10 +32,10 @@ use Rattle.bitmaps.specs.Unpack.{saidUnpacked}
 use Rattle.bitmaps.specs.declared.Drawn.{Drawn}
 use Rattle.bitmaps.specs.declared.Unpacked.{Unpacked}
 use Rattle.place.specs.Bounds.{dimensions, saidSized}
-use Rattle.place.specs.Info.{preparedIn, saidPrepared}
+use Rattle.place.specs.Info.{prepared, saidPlaced}
 use Rattle.place.specs.declared.Sized.{Sized}
 use Rattle.place.specs.declared.GlyphInfo.{GlyphInfo}
-use Rattle.place.specs.declared.Prepared.{Prepared}
+use Rattle.place.specs.declared.CharPrepared.{CharPrepared}
 use Rattle.glyphs.specs.Glyph.{drawGlyph}
 use Rattle.glyphs.specs.Char.{drawChar, saidChar}
 use Rattle.glyphs.specs.Unpack.{unpackGlyph}
@@ -48,7 +49,6 @@ use Rattle.text.specs.declared.Layout.{Layout}
 use Rattle.text.specs.declared.TextDrawn.{TextDrawn}
 use Rattle.font.specs.Shown.{asLoaded, recordOf}
 use Rattle.font.specs.declared.Reading.{Reading}
-use Rattle.thalluskin.specs.Modes.{isKnown}
 use Rattle.thalluskin.specs.Reading.{fontAnswer, propAnswer, propertyAnswer, glyphAnswer, nameAnswer, metricsAnswer, accelAnswer}
 use Rattle.thalluskin.specs.Placing.{extentAnswer, infoAnswer}
 use Rattle.thalluskin.specs.Drawing.{rowsAnswer, charAnswer, unpackAnswer}
@@ -89,9 +89,9 @@ vet-read : (x : Vetted) → Answers (saidVetted x) → saysFont (fontAnswer (asL
 vet-read (Vetted.Passed rec) h = refl
 vet-read (Vetted.Refused r) h = a-refusal (r .number) (r .place) _ h
 
-glyph-read : (x : Found) → Answers (saidFound x) → saysGlyph (glyphAnswer x) ≡ saidFound x
-glyph-read (Found.Glyph g) h = refl
-glyph-read (Found.Refused r) h = a-refusal (r .number) (r .place) _ h
+glyph-read : (x : Served) → Answers (saidServed x) → saysGlyph (glyphAnswer x) ≡ saidServed x
+glyph-read (Served.Glyph g by) h = refl
+glyph-read (Served.Refused r) h = a-refusal (r .number) (r .place) _ h
 
 name-read : (x : Named) → Answers (saidNamed x) → saysName (nameAnswer x) ≡ saidNamed x
 name-read (Named.Name p) h = refl
@@ -109,20 +109,20 @@ extent-read : (x : Sized) → Answers (saidSized x) → saysExtent (extentAnswer
 extent-read (Sized.Dimensions d) h = refl
 extent-read (Sized.Refused r) h = a-refusal (r .number) (r .place) _ h
 
-info-read : (x : Prepared) → Answers (saidPrepared x) → saysInfo (infoAnswer x) ≡ saidPrepared x
-info-read (Prepared.Info i) h = refl
-info-read (Prepared.Refused r) h = a-refusal (r .number) (r .place) _ h
+info-read : (x : CharPrepared) → Answers (saidPlaced x) → saysInfo (infoAnswer x) ≡ saidPlaced x
+info-read (CharPrepared.Info i by) h = refl
+info-read (CharPrepared.Refused r) h = a-refusal (r .number) (r .place) _ h
 
 rows-read : (x : Drawn) → Answers (saidDrawn x) → saysRows (rowsAnswer x) ≡ saidDrawn x
 rows-read (Drawn.Rows n) h = refl
 rows-read (Drawn.Refused r) h = a-refusal (r .number) (r .place) _ h
 
 char-read : (x : CharDrawn) → Answers (saidChar x) → saysChar (charAnswer x) ≡ saidChar x
-char-read (CharDrawn.Glyph i n) h = refl
+char-read (CharDrawn.Glyph i n by) h = refl
 char-read (CharDrawn.Refused r) h = a-refusal (r .number) (r .place) _ h
 
 why-read : (x : Told) → Answers (saidTold x) → saysWhy (whyAnswer x) ≡ saidTold x
-why-read (Told.Because r) h = refl
+why-read (Told.Because r by) h = refl
 why-read (Told.Refused r) h = a-refusal (r .number) (r .place) _ h
 
 unpack-read : (x : Unpacked) → Answers (saidUnpacked x) → saysUnpack (unpackAnswer x) ≡ saidUnpacked x
@@ -152,18 +152,19 @@ load-says s = font-read (loaded s) (nought-answers refl (load-pcf-refusals s))
 pub load-strict-says : (s : List ℕ) → saysFont (fontAnswer (loadedStrictly s)) ≡ saidLoaded (loadedStrictly s)
 load-strict-says s = font-read (loadedStrictly s) (nought-answers refl (load-strict-refusals s))
 
--- in mode 0; in any other number it is `vet-unknown`
-pub vet-says : (s : List ℕ) → saysFont (fontAnswer (cond (isKnown 0) (recordOf s Reading.Vetted) (Loaded.Refused (refusal 15 0)))) ≡ saidVetted (vetted s)
+-- in a known mode; in any other number it is `vet-unknown`
+pub vet-says : (s : List ℕ) (mode : ℕ) → isKnown mode ≡ true
+    → saysFont (fontAnswer (cond (isKnown mode) (recordOf s Reading.Vetted) (Loaded.Refused (refusal 15 0)))) ≡ saidVetted (vetted s)
 unfolding recordOf
-vet-says s = vet-read (vetted s) (nought-answers refl (vet-refusals s))
+vet-says s mode known = rw known (vet-read (vetted s) (nought-answers refl (vet-refusals s)))
 
 pub property-says : (s : List ℕ) (rec : Record) (number : ℕ) → saysProperty (propertyAnswer (propAt s rec number)) ≡ saidProp (propAt s rec number)
 property-says s rec number = property-read (propAt s rec number) (nought-answers refl (prop-at-refusals s rec number .numbered))
 
 pub glyph-says : (s : List ℕ) (rec : Record) (code mode : ℕ)
-    → let g = guarded Found.Refused s rec (isKnown mode) (glyphOf s (rec .codes) code) in saysGlyph (glyphAnswer g) ≡ saidFound g
+    → let g = guarded Served.Refused s rec (isKnown mode) (served s (rec .codes) (modeOf mode) code) in saysGlyph (glyphAnswer g) ≡ saidServed g
 glyph-says s rec code mode =
-    let g = guarded Found.Refused s rec (isKnown mode) (glyphOf s (rec .codes) code) in
+    let g = guarded Served.Refused s rec (isKnown mode) (served s (rec .codes) (modeOf mode) code) in
     glyph-read g (nought-answers refl (thalluskin-glyph-refusals s rec code mode .numbered))
 
 pub name-says : (s : List ℕ) (rec : Record) (glyph : ℕ) → saysName (nameAnswer (getName s rec glyph)) ≡ saidNamed (getName s rec glyph)
@@ -179,9 +180,9 @@ pub dimensions-says : (s : List ℕ) (rec : Record) → saysExtent (extentAnswer
 dimensions-says s rec = extent-read (dimensions s rec) (nought-answers refl (dimensions-refusals s rec .numbered))
 
 pub prep-char-says : (s : List ℕ) (rec : Record) (code mode : ℕ)
-    → let p = guarded Prepared.Refused s rec (isKnown mode) (preparedIn s rec code) in saysInfo (infoAnswer p) ≡ saidPrepared p
+    → let p = guarded CharPrepared.Refused s rec (isKnown mode) (prepared s rec (modeOf mode) code) in saysInfo (infoAnswer p) ≡ saidPlaced p
 prep-char-says s rec code mode =
-    let p = guarded Prepared.Refused s rec (isKnown mode) (preparedIn s rec code) in
+    let p = guarded CharPrepared.Refused s rec (isKnown mode) (prepared s rec (modeOf mode) code) in
     info-read p (nought-answers refl (thalluskin-prep-char-refusals s rec code mode .numbered))
 
 pub draw-bitmap-says : (s : List ℕ) (rec : Record) (glyph width height len : ℕ) (at : Place)
@@ -191,27 +192,27 @@ draw-bitmap-says s rec glyph width height len at =
 
 pub draw-glyph-says : (s : List ℕ) (rec : Record) (mode : Mode) (info : GlyphInfo) (len : ℕ) (at : Place)
     → let d = drawGlyph s rec mode info len at in saysRows (rowsAnswer d) ≡ saidDrawn d
-draw-glyph-says s rec info len at =
+draw-glyph-says s rec mode info len at =
     rows-read (drawGlyph s rec mode info len at) (nought-answers refl (draw-glyph-refusals s rec mode info len at .numbered))
 
 pub draw-char-says : (s : List ℕ) (rec : Record) (mode : Mode) (code len : ℕ) (at : Place)
     → let d = drawChar s rec mode code len at in saysChar (charAnswer d) ≡ saidChar d
-draw-char-says s rec code len at =
+draw-char-says s rec mode code len at =
     char-read (drawChar s rec mode code len at) (nought-answers refl (draw-char-refusals s rec mode code len at .numbered))
 
 pub why-says : (s : List ℕ) (rec : Record) (mode : Mode) (code len : ℕ) (at : Place)
     → let t = whyOf s rec mode code len at in saysWhy (whyAnswer t) ≡ saidTold t
-why-says s rec code len at = why-read (whyOf s rec mode code len at) (nought-answers refl (why-refusals s rec mode code len at .numbered))
+why-says s rec mode code len at = why-read (whyOf s rec mode code len at) (nought-answers refl (why-refusals s rec mode code len at .numbered))
 
 pub unpack-glyph-says : (s : List ℕ) (rec : Record) (mode : Mode) (info : GlyphInfo) (len start stride : ℕ)
     → let u = unpackGlyph s rec mode info len start stride in saysUnpack (unpackAnswer u) ≡ saidUnpacked u
-unpack-glyph-says s rec info len start stride =
+unpack-glyph-says s rec mode info len start stride =
     unpack-read (unpackGlyph s rec mode info len start stride) (nought-answers refl (unpack-glyph-refusals s rec mode info len start stride .numbered))
 
 -- of the drawing and of its dry run, which answer the same
 pub draw-string-says : (s : List ℕ) (rec : Record) (mode : Mode) (text : List ℕ) (len : ℕ) (lay : Layout)
     → let d = drawString s rec mode text len lay in saysText (textAnswer d) ≡ saidText d
-draw-string-says s rec text len lay =
+draw-string-says s rec mode text len lay =
     text-read (drawString s rec mode text len lay) (nought-answers refl (draw-string-refusals s rec mode text len lay .numbered))
 
 pub utf8-step-says : (text : List ℕ) (i : ℕ) → saysStep (stepAnswer (stepAt text i)) ≡ saidStep (stepAt text i)

@@ -5,23 +5,23 @@ use mathlib.Core.List.{List, [], _∷_}
 use Prim.Native.Nat.{ℕ}
 use Rattle.tables.specs.Fits.{guarded}
 use Rattle.tables.specs.declared.Record.{Record}
-use Rattle.lookup.specs.Lookup.{glyphOf, saidFound}
-use Rattle.lookup.specs.declared.Found.{Found}
-use Rattle.lookup.proofs.Refusals.{glyph-of-refusals}
-use Rattle.place.specs.Bounds.{boundsOf}
-use Rattle.place.specs.Info.{preparedIn, ofPlacing, saidPrepared}
-use Rattle.place.specs.declared.Prepared.{Prepared}
+use Rattle.modes.specs.Modes.{isKnown, modeOf}
+use Rattle.lookup.specs.Served.{served, saidServed}
+use Rattle.lookup.specs.declared.Served.{Served}
+use Rattle.lookup.proofs.Refusals.{served-refusals}
+use Rattle.place.specs.Info.{prepared, ofPlacing, saidPlaced}
+use Rattle.place.specs.declared.CharPrepared.{CharPrepared}
 use Rattle.place.proofs.Refusals.{char-info-refusals}
-use Rattle.thalluskin.specs.Modes.{isKnown}
 use Rattle.promises.specs.Refusals.{Refusals}
 use Rattle.promises.proofs.RecordTest.{guarded-refusals}
 
 module _ (s : List ℕ) (rec : Record) (code mode : ℕ) where
-  pub thalluskin-glyph-refusals : Refusals s rec (6 ∷ 15 ∷ 9 ∷ []) (saidFound (guarded Found.Refused s rec (isKnown mode) (glyphOf s (rec .codes) code)))
+  pub thalluskin-glyph-refusals :
+      Refusals s rec (6 ∷ 15 ∷ 9 ∷ []) (saidServed (guarded Served.Refused s rec (isKnown mode) (served s (rec .codes) (modeOf mode) code)))
   thalluskin-glyph-refusals =
-      guarded-refusals s rec saidFound Found.Refused (λ r. refl) (isKnown mode) _ refl (λ fits. glyph-of-refusals s (rec .codes) code)
+      guarded-refusals s rec saidServed Served.Refused (λ r. refl) (isKnown mode) _ refl (λ fits. served-refusals s (rec .codes) (modeOf mode) code)
 
-  pub thalluskin-prep-char-refusals : Refusals s rec (6 ∷ 15 ∷ 9 ∷ ofPlacing) (saidPrepared (guarded Prepared.Refused s rec (isKnown mode) (preparedIn s rec code)))
+  pub thalluskin-prep-char-refusals :
+      Refusals s rec (6 ∷ 15 ∷ 9 ∷ ofPlacing) (saidPlaced (guarded CharPrepared.Refused s rec (isKnown mode) (prepared s rec (modeOf mode) code)))
   thalluskin-prep-char-refusals =
-      guarded-refusals s rec saidPrepared Prepared.Refused (λ r. refl) (isKnown mode) _ refl
-      (λ fits. char-info-refusals s (rec .codes) (rec .metrics) (boundsOf rec) code)
+      guarded-refusals s rec saidPlaced CharPrepared.Refused (λ r. refl) (isKnown mode) _ refl (λ fits. char-info-refusals s rec (modeOf mode) code)

@@ -10,7 +10,8 @@ use Rattle.tables.specs.Names.{namesTable, namesAt}
 use Rattle.tables.specs.Fits.{propsFit, metricsFit, bitmapsFit, codesFit, namesFit, recordFits}
 use Rattle.load.specs.Gather.{finished}
 use Rattle.load.specs.Load.{tableAt, tableIn, entryOf, entryAt, entriesFrom, loadedIn}
-use Rattle.lookup.specs.Lookup.{slotOf, glyphOf, getGlyph}
+use Rattle.lookup.specs.Lookup.{slotOf, glyphOf}
+use Rattle.lookup.specs.Served.{standIn, served, getGlyph}
 use Rattle.metrics.specs.Measure.{metricsOf, getMetrics}
 use Rattle.bitmaps.specs.Paint.{some, painted}
 use Rattle.bitmaps.specs.Units.{bitAt, byteOf}
@@ -37,7 +38,7 @@ pub proved-cases : Holds table
 unfolding table seen asked F linesF typed typedLines hexBytes linesOf digitOf digits numAt signed less128
     propertiesTable propertiesAt acceleratorsTable acceleratorsAt wideAt narrowAt metricsTable metricsAt bitmapsTable
     bitmapsAt codesTable codesAt namesTable namesAt propsFit metricsFit bitmapsFit codesFit namesFit recordFits finished
-    tableAt tableIn entryOf entryAt entriesFrom loadedIn slotOf glyphOf getGlyph metricsOf getMetrics some painted bitAt byteOf bytesPast blockDot rowDot
+    tableAt tableIn entryOf entryAt entriesFrom loadedIn slotOf glyphOf standIn served getGlyph metricsOf getMetrics some painted bitAt byteOf bytesPast blockDot rowDot
     someDot rowsShort glyphBit shownAt boundsHold placeable infoOf prepared glyphDrawn charReady drawChar find leadOf leads longer
     stepAt decodeFrom decoded checkedText placed textFrom inText ready drawString offsetOf wrapped placedDrawn pairs allPairs
 proved-cases = (refl, (refl, (refl, (refl, (refl, (refl, (refl, (refl, (refl, (refl, tt))))))))))

@@ -4,12 +4,14 @@ use mathlib.Core.Path.{refl}
 use mathlib.Core.List.{List, [], _∷_}
 use Prim.Native.Nat.{ℕ}
 use lib.ListN.{length}
+use Rattle.reads.specs.Said.{NumberedBy}
 use Rattle.reads.proofs.Numbers.{has-values, has-number, whichever}
 use Rattle.tables.specs.declared.Record.{Record}
 use Rattle.tables.proofs.RecordParts.{prop-strings, name-strings}
-use Rattle.lookup.specs.Lookup.{getGlyph, saidFound}
-use Rattle.lookup.specs.declared.Found.{Found}
-use Rattle.lookup.proofs.Refusals.{glyph-of-refusals}
+use Rattle.modes.specs.declared.Mode.{Mode}
+use Rattle.lookup.specs.Served.{served, getGlyph, saidServed}
+use Rattle.lookup.specs.declared.Served.{Served}
+use Rattle.lookup.proofs.Refusals.{served-refusals}
 use Rattle.names.specs.Names.{getName, saidNamed}
 use Rattle.names.specs.declared.Named.{Named}
 use Rattle.names.proofs.Refusals.{name-in-data}
@@ -21,12 +23,13 @@ use Rattle.metrics.specs.declared.Accelerated.{Accelerated}
 use Rattle.metrics.specs.declared.Measured.{Measured}
 use Rattle.metrics.proofs.Refusals.{metrics-of-refusals}
 use Rattle.place.specs.Bounds.{boundsOf, boundsHold, boundsSized, dimensions, saidSized}
-use Rattle.place.specs.Info.{prepChar, ofPlacing, saidPrepared}
+use Rattle.place.specs.Info.{prepChar, ofPlacing, saidPlaced}
 use Rattle.place.specs.declared.Sized.{Sized}
-use Rattle.place.specs.declared.Prepared.{Prepared}
+use Rattle.place.specs.declared.CharPrepared.{CharPrepared}
 use Rattle.place.proofs.Refusals.{char-info-refusals}
 use Rattle.bitmaps.specs.Limits.{okPlace}
 use Rattle.bitmaps.specs.Place.{Place}
+use Rattle.why.specs.Reasons.{servedReason, reasonOf}
 use Rattle.why.specs.Why.{whyOf, saidTold}
 use Rattle.why.specs.declared.Told.{Told}
 use Rattle.frames.specs.Put.{frameInto, ofFrames, saidPrinted}
@@ -38,9 +41,10 @@ use Rattle.promises.proofs.RecordTest.{tested-refusals, guarded-refusal
 -- the calls with a record
 
 module _ (s : List ℕ) (rec : Record) where
-  pub get-glyph-refusals : (code : ℕ) → Refusals s rec (6 ∷ 9 ∷ []) (saidFound (getGlyph s rec code))
+  pub get-glyph-refusals : (mode : Mode) (code : ℕ) → Refusals s rec (6 ∷ 9 ∷ []) (saidServed (getGlyph s rec mode code))
   unfolding getGlyph
-  get-glyph-refusals code = tested-refusals s rec saidFound Found.Refused (λ r. refl) _ refl (λ fits. glyph-of-refusals s (rec .codes) code)
+  get-glyph-refusals mode code =
+      tested-refusals s rec saidServed Served.Refused (λ r. refl) _ refl (λ fits. served-refusals s (rec .codes) mode code)
 
   pub get-name-refusals : (g : ℕ) → Refusals s rec (6 ∷ 17 ∷ 18 ∷ []) (saidNamed (getName s rec g))
   unfolding getName
@@ -66,14 +70,19 @@ module _ (s : List ℕ) (rec : Record) where
   dimensions-refusals =
       tested-refusals s rec saidSized Sized.Refused (λ r. refl) _ refl (λ fits. whichever saidSized (boundsHold (boundsOf rec)) has-values (has-number refl))
 
-  pub prep-char-refusals : (code : ℕ) → Refusals s rec (6 ∷ 9 ∷ ofPlacing) (saidPrepared (prepChar s rec code))
+  pub prep-char-refusals : (mode : Mode) (code : ℕ) → Refusals s rec (6 ∷ 9 ∷ ofPlacing) (saidPlaced (prepChar s rec mode code))
   unfolding prepChar
-  prep-char-refusals code =
-      tested-refusals s rec saidPrepared Prepared.Refused (λ r. refl) _ refl (λ fits. char-info-refusals s (rec .codes) (rec .metrics) (boundsOf rec) code)
+  prep-char-refusals mode code =
+      tested-refusals s rec saidPlaced CharPrepared.Refused (λ r. refl) _ refl (λ fits. char-info-refusals s rec mode code)
 
-  pub why-refusals : (code len : ℕ) (at : Place) → Refusals s rec (6 ∷ 15 ∷ []) (saidTold (whyOf s rec code len at))
-  unfolding whyOf
-  why-refusals code len at = guarded-refusals s rec saidTold Told.Refused (λ r. refl) (okPlace at) _ refl (λ fits. has-values)
+  because-values : (code len : ℕ) (at : Place) (x : Served) → NumberedBy [] (saidTold (servedReason s rec code len at x))
+  because-values code len at (Served.Glyph g by) = has-values
+  because-values code len at (Served.Refused r) = has-values
+
+  pub why-refusals : (mode : Mode) (code len : ℕ) (at : Place) → Refusals s rec (6 ∷ 15 ∷ []) (saidTold (whyOf s rec mode code len at))
+  unfolding whyOf reasonOf
+  why-refusals mode code len at =
+      guarded-refusals s rec saidTold Told.Refused (λ r. refl) (okPlace at) _ refl (λ fits. because-values code len at (served s (rec .codes) mode code))
 
   pub put-frame-refusals : (code room : ℕ) → Refusals s rec (6 ∷ ofFrames) (saidPrinted (frameInto s rec code room))
   unfolding frameInto

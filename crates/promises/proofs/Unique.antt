@@ -53,8 +53,22 @@ use Rattle.load.proofs.blank.Kinds as blank-kinds
 use Rattle.load.proofs.blank.Reads as blank-reads
 use Rattle.load.proofs.no_metrics.Kinds as no-metrics-kinds
 use Rattle.load.proofs.no_metrics.Reads as no-metrics-reads
+use Rattle.modes.proofs.plain.Kinds as plain-kinds
+use Rattle.modes.proofs.plain.Reads as plain-reads
+use Rattle.modes.proofs.is_known.Kinds as is-known-kinds
+use Rattle.modes.proofs.is_known.Reads as is-known-reads
+use Rattle.modes.proofs.mode_of.Kinds as mode-of-kinds
+use Rattle.modes.proofs.mode_of.Reads as mode-of-reads
 use Rattle.lookup.proofs.glyph_of.Kinds as glyph-of-kinds
 use Rattle.lookup.proofs.glyph_of.Reads as glyph-of-reads
+use Rattle.lookup.proofs.stand_in.Kinds as stand-in-kinds
+use Rattle.lookup.proofs.stand_in.Reads as stand-in-reads
+use Rattle.lookup.proofs.or_else.Kinds as or-else-kinds
+use Rattle.lookup.proofs.or_else.Reads as or-else-reads
+use Rattle.lookup.proofs.or_stand_in.Kinds as or-stand-in-kinds
+use Rattle.lookup.proofs.or_stand_in.Reads as or-stand-in-reads
+use Rattle.lookup.proofs.serve.Kinds as serve-kinds
+use Rattle.lookup.proofs.serve.Reads as serve-reads
 use Rattle.lookup.proofs.get_glyph.Kinds as get-glyph-kinds
 use Rattle.lookup.proofs.get_glyph.Reads as get-glyph-reads
 use Rattle.names.proofs.string_at.Kinds as string-at-kinds
@@ -266,6 +280,27 @@ no-metrics-unique κs a r₁ r₂ x₁ x₂ p q = p ∙ sym q
 pub glyph-of-unique : Fixes 1 glyph-of-kinds.ps glyph-of-kinds.r glyph-of-reads.Post
 glyph-of-unique κs a r₁ r₂ x₁ x₂ p q = p ∙ sym q
 
+pub plain-unique : Fixes 0 plain-kinds.ps plain-kinds.r plain-reads.Post
+plain-unique κs a r₁ r₂ x₁ x₂ p q = p ∙ sym q
+
+pub is-known-unique : Fixes 0 is-known-kinds.ps is-known-kinds.r is-known-reads.Post
+is-known-unique κs a r₁ r₂ x₁ x₂ p q = p ∙ sym q
+
+pub mode-of-unique : Fixes 0 mode-of-kinds.ps mode-of-kinds.r mode-of-reads.Post
+mode-of-unique κs a r₁ r₂ x₁ x₂ p q = p ∙ sym q
+
+pub stand-in-unique : Fixes 1 stand-in-kinds.ps stand-in-kinds.r stand-in-reads.Post
+stand-in-unique κs a r₁ r₂ x₁ x₂ p q = p ∙ sym q
+
+pub or-else-unique : Fixes 0 or-else-kinds.ps or-else-kinds.r or-else-reads.Post
+or-else-unique κs a r₁ r₂ x₁ x₂ p q = p ∙ sym q
+
+pub or-stand-in-unique : Fixes 1 or-stand-in-kinds.ps or-stand-in-kinds.r or-stand-in-reads.Post
+or-stand-in-unique κs a r₁ r₂ x₁ x₂ p q = p ∙ sym q
+
+pub serve-unique : Fixes 1 serve-kinds.ps serve-kinds.r serve-reads.Post
+serve-unique κs a r₁ r₂ x₁ x₂ p q = p ∙ sym q
+
 pub get-glyph-unique : Fixes 1 get-glyph-kinds.ps get-glyph-kinds.r get-glyph-reads.Post
 get-glyph-unique κs a r₁ r₂ x₁ x₂ p q = p ∙ sym q
 
@@ -434,13 +469,13 @@ unpack-at-unique κs a r₁ r₂ x₁ x₂ p q = (p .0 ∙ sym (q .0), p .1 ∙ 
 pub show-glyph-unique : FixesLent 2 show-glyph-kinds.ps show-glyph-kinds.r show-glyph-reads.Post (λ κs x. now (x .1 .1 .1 .0))
 show-glyph-unique κs a r₁ r₂ x₁ x₂ p q = (p .0 ∙ sym (q .0), p .1 ∙ rw (p .0, q .0) refl ∙ sym (q .1))
 
-pub draw-glyph-unique : FixesLent 2 draw-glyph-kinds.ps draw-glyph-kinds.r draw-glyph-reads.Post (λ κs x. now (x .1 .1 .1 .0))
+pub draw-glyph-unique : FixesLent 2 draw-glyph-kinds.ps draw-glyph-kinds.r draw-glyph-reads.Post (λ κs x. now (x .1 .1 .1 .1 .0))
 draw-glyph-unique κs a r₁ r₂ x₁ x₂ p q = (p .0 ∙ sym (q .0), p .1 ∙ rw (p .0, q .0) refl ∙ sym (q .1))
 
-pub draw-char-unique : FixesLent 2 draw-char-kinds.ps draw-char-kinds.r draw-char-reads.Post (λ κs x. now (x .1 .1 .1 .0))
+pub draw-char-unique : FixesLent 2 draw-char-kinds.ps draw-char-kinds.r draw-char-reads.Post (λ κs x. now (x .1 .1 .1 .1 .0))
 draw-char-unique κs a r₁ r₂ x₁ x₂ p q = (p .0 ∙ sym (q .0), p .1 ∙ rw (p .0, q .0) refl ∙ sym (q .1))
 
-pub unpack-glyph-unique : FixesLent 2 unpack-glyph-kinds.ps unpack-glyph-kinds.r unpack-glyph-reads.Post (λ κs x. now (x .1 .1 .1 .0))
+pub unpack-glyph-unique : FixesLent 2 unpack-glyph-kinds.ps unpack-glyph-kinds.r unpack-glyph-reads.Post (λ κs x. now (x .1 .1 .1 .1 .0))
 unpack-glyph-unique κs a r₁ r₂ x₁ x₂ p q = (p .0 ∙ sym (q .0), p .1 ∙ rw (p .0, q .0) refl ∙ sym (q .1))
 
 pub bounds-sized-unique : Fixes 0 bounds-sized-kinds.ps bounds-sized-kinds.r bounds-sized-reads.Post
@@ -464,5 +499,5 @@ wrap-of-unique κs a r₁ r₂ x₁ x₂ p q = p ∙ sym q
 pub text-check-unique : Fixes 2 text-check-kinds.ps text-check-kinds.r text-check-reads.Post
 text-check-unique κs a r₁ r₂ x₁ x₂ p q = p ∙ sym q
 
-pub draw-string-unique : FixesLent 3 draw-string-kinds.ps draw-string-kinds.r draw-string-reads.Post (λ κs x. now (x .1 .1 .1 .0))
+pub draw-string-unique : FixesLent 3 draw-string-kinds.ps draw-string-kinds.r draw-string-reads.Post (λ κs x. now (x .1 .1 .1 .1 .0))
 draw-string-unique κs a r₁ r₂ x₁ x₂ p q = (p .0 ∙ sym (q .0), p .1 ∙ rw (p .0, q .0) refl ∙ sym (q .1))

@@ -31,16 +31,16 @@ use Rattle.promises.specs.Unique.{Fixes, FixesLent, SamePart, FixesSaid}
 pub record-of-unique : Fixes 1 record-of-kinds.ps record-of-kinds.r record-of-reads.Post
 record-of-unique κs a r₁ r₂ x₁ x₂ p q = p ∙ sym q
 
-pub char-through-unique : FixesLent 2 char-through-kinds.ps char-through-kinds.r char-through-reads.Post (λ κs x. now (x .1 .1 .1 .0))
+pub char-through-unique : FixesLent 2 char-through-kinds.ps char-through-kinds.r char-through-reads.Post (λ κs x. now (x .1 .1 .1 .1 .0))
 char-through-unique κs a r₁ r₂ x₁ x₂ p q = (p .0 ∙ sym (q .0), p .1 ∙ rw (p .0, q .0) refl ∙ sym (q .1))
 
-pub string-through-unique : FixesLent 3 string-through-kinds.ps string-through-kinds.r string-through-reads.Post (λ κs x. now (x .1 .1 .1 .0))
+pub string-through-unique : FixesLent 3 string-through-kinds.ps string-through-kinds.r string-through-reads.Post (λ κs x. now (x .1 .1 .1 .1 .0))
 string-through-unique κs a r₁ r₂ x₁ x₂ p q = (p .0 ∙ sym (q .0), p .1 ∙ rw (p .0, q .0) refl ∙ sym (q .1))
 
-pub show-char-unique : FixesLent 2 show-char-kinds.ps show-char-kinds.r show-char-reads.Post (λ κs x. now (x .1 .1 .1 .0))
+pub show-char-unique : FixesLent 2 show-char-kinds.ps show-char-kinds.r show-char-reads.Post (λ κs x. now (x .1 .1 .1 .1 .0))
 show-char-unique κs a r₁ r₂ x₁ x₂ p q = (p .0 ∙ sym (q .0), p .1 ∙ rw (p .0, q .0) refl ∙ sym (q .1))
 
-pub show-string-unique : FixesLent 3 show-string-kinds.ps show-string-kinds.r show-string-reads.Post (λ κs x. now (x .1 .1 .1 .0))
+pub show-string-unique : FixesLent 3 show-string-kinds.ps show-string-kinds.r show-string-reads.Post (λ κs x. now (x .1 .1 .1 .1 .0))
 show-string-unique κs a r₁ r₂ x₁ x₂ p q = (p .0 ∙ sym (q .0), p .1 ∙ rw (p .0, q .0) refl ∙ sym (q .1))
 
 module _ {M : Type 1} (𝓤 : URA M) where
@@ -76,10 +76,10 @@ module _ {M : Type 1} (𝓤 : URA M) (H : Heap 𝓤) (A : Atoms 𝓤) (mem : Mem
   pub view-name-bytes-unique : FixesSaid 𝓤 view-name-bytes.ended (view-name-bytes.clauses 𝓤 H A mem run) (λ κs r₁ r₂ x₁ x₂. SamePart r₁ r₂)
   view-name-bytes-unique κs a g₁ g₂ r₁ r₂ x₁ x₂ = from-pairs 𝓤 (λ p l q m. (p ∙ sym q, l ∙ sym m))
 
-  pub view-draw-char-unique : FixesSaid 𝓤 view-draw-char.ended (view-draw-char.clauses 𝓤 H A mem run) (λ κs r₁ r₂ x₁ x₂. (r₁ ≡ r₂) × (now (x₁ .1 .1 .0) ≡ now (x₂ .1 .1 .0)))
+  pub view-draw-char-unique : FixesSaid 𝓤 view-draw-char.ended (view-draw-char.clauses 𝓤 H A mem run) (λ κs r₁ r₂ x₁ x₂. (r₁ ≡ r₂) × (now (x₁ .1 .1 .1 .0) ≡ now (x₂ .1 .1 .1 .0)))
   view-draw-char-unique κs a g₁ g₂ r₁ r₂ x₁ x₂ =
       from-pairs 𝓤 (λ p l q m. (p ∙ sym q, l ∙ rw (p, q) refl ∙ sym m))
 
-  pub view-draw-string-unique : FixesSaid 𝓤 view-draw-string.ended (view-draw-string.clauses 𝓤 H A mem run) (λ κs r₁ r₂ x₁ x₂. (r₁ ≡ r₂) × (now (x₁ .1 .1 .0) ≡ now (x₂ .1 .1 .0)))
+  pub view-draw-string-unique : FixesSaid 𝓤 view-draw-string.ended (view-draw-string.clauses 𝓤 H A mem run) (λ κs r₁ r₂ x₁ x₂. (r₁ ≡ r₂) × (now (x₁ .1 .1 .1 .0) ≡ now (x₂ .1 .1 .1 .0)))
   view-draw-string-unique κs a g₁ g₂ r₁ r₂ x₁ x₂ =
       from-pairs 𝓤 (λ p l q m. (p ∙ sym q, l ∙ rw (p, q) refl ∙ sym m))

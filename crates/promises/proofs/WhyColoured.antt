@@ -11,6 +11,7 @@ use Rattle.tables.specs.declared.BitmapData.{BitmapData}
 use Rattle.tables.specs.declared.MetricsUnpacked.{MetricsUnpacked}
 use Rattle.tables.specs.declared.Record.{Record}
 use Rattle.modes.specs.declared.Mode.{Mode}
+use Rattle.lookup.specs.declared.Supplier.{Supplier}
 use Rattle.metrics.specs.Measure.{glyphMetrics, metricsOf}
 use Rattle.bitmaps.specs.Place.{Place}
 use Rattle.bitmaps.specs.Picture.{noBitmap, unreadable, rowsShort, pixelPast}
@@ -25,9 +26,10 @@ use Rattle.why.specs.Why.{whyOf}
 use Rattle.why.specs.declared.Reason.{Reason}
 use Rattle.why.specs.declared.Told.{Told}
 use Rattle.promises.specs.Drawing.{Coloured, charColoured}
-use Rattle.promises.specs.Passing.{HasGlyph}
+use Rattle.promises.specs.Serving.{ShownBy}
 use Rattle.promises.specs.Why.{boxIn, rowsIn, bitIn, PixelBeyond, TrueOf, rank, Askable}
 use Rattle.promises.proofs.Coloured.{dot-past}
+use Rattle.promises.proofs.Serving.{served-exactly}
 use Rattle.promises.proofs.Vetting.{good-order, good-metrics}
 use Rattle.promises.proofs.WhyFirst.{short-beyond, within-limits, why-first}
 
@@ -37,7 +39,7 @@ module _ (s : List ℕ) (rec : Record) (mode : Mode) (code len : ℕ) (at : Plac
   Unhindered = (other : Reason) → rank other < rank (Reason.RowsCut 0) → TrueOf s rec mode code len at other → ⊥
 
   -- a glyph that nothing hinders
-  module _ (asked : Askable s rec at) (g : ℕ) (found : HasGlyph s rec code g) (none : Unhindered) where
+  module _ (asked : Askable s rec at) (g : ℕ) (by : Supplier) (shown : ShownBy s rec mode code g by) (none : Unhindered) where
     abbrev b : BitmapData
     b = rec .bitmaps
 
@@ -53,21 +55,22 @@ module _ (s : List ℕ) (rec : Record) (mode : Mode) (code len : ℕ) (at : Plac
     counted : leb (rec .metrics .count) g ≡ false
     counted =
         split (leb (rec .metrics .count) g)
-        (λ t. absurd (none Reason.NoMetrics (omega arith) (record { glyph = g; found = found; holds = leb-true (rec .metrics .count) g t }))) (λ t. t)
+        (λ t. absurd (none Reason.NoMetrics (omega arith) (record { glyph = g; by = by; shown = shown; holds = leb-true (rec .metrics .count) g t }))) (λ t. t)
 
     in-range : placeable m (boundsOf rec .ascent) ≡ true
     in-range =
         split (placeable m (boundsOf rec .ascent)) (λ t. t)
         (λ t. absurd (none Reason.BadMetrics (omega arith) (record {
           glyph = g;
-          found = found;
+          by = by;
+          shown = shown;
           holds = λ good. never (sym t ∙ good-metrics m (boundsOf rec .ascent) good);
         })))
 
     pictured : noBitmap b g ≡ false
     pictured =
         split (noBitmap b g)
-        (λ t. absurd (none Reason.NoBitmap (omega arith) (record { glyph = g; found = found; holds = leb-true (b .count) g t }))) (λ t. t)
+        (λ t. absurd (none Reason.NoBitmap (omega arith) (record { glyph = g; by = by; shown = shown; holds = leb-true (b .count) g t }))) (λ t. t)
 
     readable : unreadable b ≡ false
     readable = split (unreadable b) (λ t. absurd (none Reason.BitOrder (omega arith) (λ good. never (sym (good-order b good) ∙ t)))) (λ t. t)
@@ -77,13 +80,14 @@ module _ (s : List ℕ) (rec : Record) (mode : Mode) (code len : ℕ) (at : Plac
         split (rowsShort s b g (box .width) n)
         (λ t. absurd (none Reason.BitmapShort (omega arith) (record {
           glyph = g;
-          found = found;
-          holds = short-beyond s rec code len at (asked .fits) (record { 0 = g }) found t;
+          by = by;
+          shown = shown;
+          holds = short-beyond s rec mode code len at (asked .fits) (record { 0 = g }) by (served-exactly s rec mode code g by .1 shown) t;
         })))
         (λ t. t)
 
     no-pixel : PixelBeyond s rec len at g → ⊥
-    no-pixel w = none Reason.BufferShort (omega arith) (record { glyph = g; found = found; holds = w })
+    no-pixel w = none Reason.BufferShort (omega arith) (record { glyph = g; by = by; shown = shown; holds = w })
 
     room : pixelPast s b g (box .width) (box .width) (placeOf box at) n len ≡ false
     room =
@@ -94,17 +98,18 @@ module _ (s : List ℕ) (rec : Record) (mode : Mode) (code len : ℕ) (at : Plac
         (λ t. t)
 
     -- is drawn, with these rows
-    drawn-so : drawChar s rec mode code len at ≡ CharDrawn.Glyph box (rowsOf (box .height) n)
+    drawn-so : drawChar s rec mode code len at ≡ CharDrawn.Glyph box (rowsOf (box .height) n) by
     unfolding drawChar charReady prepared infoOf metricsOf glyphDrawn shownAt
-    drawn-so = rw (asked .fits, within-limits s rec code len at asked, found, counted, in-range, pictured, readable, there, room)
+    drawn-so = rw (asked .fits, within-limits s rec mode code len at asked, served-exactly s rec mode code g by .1 shown, counted, in-range, pictured, readable, there, room)
 
   -- some pixel of the buffer gets the colour
-  pub drawn-coloured : whyOf s rec mode code len at ≡ Told.Because Reason.Drawn
+  pub drawn-coloured : (by : Supplier) → whyOf s rec mode code len at ≡ Told.Because Reason.Drawn by
       → (i : ℕ) × (i < len) × charColoured s (rec .bitmaps) at (drawChar s rec mode code len at) i
-  drawn-coloured e =
-      let (asked, first) = why-first s rec mode code len at Reason.Drawn .0 e in
+  drawn-coloured spoken e =
+      let (asked, first, told) = why-first s rec mode code len at Reason.Drawn spoken .0 e in
       let g = first .is-true .glyph in
-      let found = first .is-true .found in
+      let by = first .is-true .by in
+      let shown = first .is-true .shown in
       let none : Unhindered = λ other h w. first .none-before other (omega arith) w in
       let set = first .is-true .holds in
       let p = placeOf (boxIn s rec g) at .p in
@@ -125,19 +130,20 @@ module _ (s : List ℕ) (rec : Record) (mode : Mode) (code len : ℕ) (at : Plac
       in (
         i,
         split (leb len i)
-            (λ t. absurd (no-pixel asked g found none (record { i = i; beyond = leb-true len i t; coloured = lit }))) (λ t. leb-false len i t),
-        subst (λ (d : CharDrawn). charColoured s (rec .bitmaps) at d i) (sym (drawn-so asked g found none)) lit,
+            (λ t. absurd (no-pixel asked g by shown none (record { i = i; beyond = leb-true len i t; coloured = lit }))) (λ t. leb-false len i t),
+        subst (λ (d : CharDrawn). charColoured s (rec .bitmaps) at d i) (sym (drawn-so asked g by shown none)) lit,
       )
 
   -- none does
-  pub blank-uncoloured : whyOf s rec mode code len at ≡ Told.Because Reason.Blank
+  pub blank-uncoloured : (by : Supplier) → whyOf s rec mode code len at ≡ Told.Because Reason.Blank by
       → (i : ℕ) → charColoured s (rec .bitmaps) at (drawChar s rec mode code len at) i → ⊥
-  blank-uncoloured e i lit =
-      let (asked, first) = why-first s rec mode code len at Reason.Blank .0 e in
+  blank-uncoloured spoken e i lit =
+      let (asked, first, told) = why-first s rec mode code len at Reason.Blank spoken .0 e in
       let g = first .is-true .glyph in
-      let found = first .is-true .found in
+      let by = first .is-true .by in
+      let shown = first .is-true .shown in
       let none : Unhindered = λ other h w. first .none-before other (omega arith) w in
       let d : Coloured (bitIn s rec len at g) (placeOf (boxIn s rec g) at) (boxIn s rec g .width) (rowsIn s rec len at g) i =
-      subst (λ (d : CharDrawn). charColoured s (rec .bitmaps) at d i) (drawn-so asked g found none) lit
+      subst (λ (d : CharDrawn). charColoured s (rec .bitmaps) at d i) (drawn-so asked g by shown none) lit
       in
       first .is-true .holds (record { r = d .r; c = d .c; r-below = d .r-below; c-below = d .c-below; is-set = d .is-set })

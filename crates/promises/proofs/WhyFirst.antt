@@ -3,7 +3,7 @@ use Prim.Native.Nat.{ℕ, _+_, _-_, _<_}
 use mathlib.Core.Path.{_≡_, refl, sym, ap, ap₂, subst, _∙_}
 use mathlib.Core.Bool.{Bool, true, false, cond}
 use mathlib.Core.List.{List, [], _∷_}
-use mathlib.Core.Logic.{_↔_}
+use mathlib.Core.Logic.{_↔_, inl, inr, ⊎-elim}
 use native.Mathlib.Omega.{arith}
 use lib.Dec.{leb, ltb, eqb}
 use lib.ListN.{length, getD}
@@ -15,9 +15,10 @@ use Rattle.reads.proofs.Tests.{never, split, choose}
 use Rattle.tables.specs.Fits.{recordFits}
 use Rattle.tables.specs.declared.BitmapData.{BitmapData}
 use Rattle.tables.specs.declared.Record.{Record}
-use Rattle.lookup.specs.Lookup.{slotOf, glyphOf}
-use Rattle.lookup.specs.declared.Found.{Found}
-use Rattle.lookup.specs.declared.Slot.{Slot}
+use Rattle.modes.specs.declared.Mode.{Mode}
+use Rattle.lookup.specs.Served.{served}
+use Rattle.lookup.specs.declared.Served.{Served}
+use Rattle.lookup.specs.declared.Supplier.{Supplier}
 use Rattle.metrics.specs.Measure.{glyphMetrics}
 use Rattle.bitmaps.specs.Paint.{some}
 use Rattle.bitmaps.specs.Place.{Place}
@@ -34,15 +35,17 @@ use Rattle.place.specs.Info.{placeable}
 use Rattle.place.specs.declared.GlyphInfo.{GlyphInfo}
 use Rattle.glyphs.specs.Glyph.{placeOf}
 use Rattle.why.specs.Codes.{firstOutside, secondOutside}
-use Rattle.why.specs.Reasons.{someBit, drawnReason, placedReason, glyphReason, entryReason, reasonOf}
+use Rattle.why.specs.Reasons.{someBit, drawnReason, placedReason, glyphReason, codeReason, reasonOf}
 use Rattle.why.specs.Why.{reasonNumber, whyOf}
 use Rattle.why.specs.declared.Reason.{Reason}
 use Rattle.why.specs.declared.Told.{Told}
 use Rattle.why.proofs.SomeBit.{bit-found, found-bit}
-use Rattle.promises.specs.Why.{boxIn, rowsIn, bitIn, ByteBeyond, SomeSet, OfGlyph, TrueOf, rank, FirstTrue, Askable}
+use Rattle.promises.specs.Why.{boxIn, rowsIn, bitIn, ByteBeyond, SomeSet, OfGlyph, OfCode, TrueOf, rank, FirstTrue, SpokenOf, Askable}
+use Rattle.promises.specs.Serving.{Unshown}
 use Rattle.promises.proofs.Coloured.{past-dot, dot-past}
 use Rattle.promises.proofs.Texts.{ok-place}
-use Rattle.promises.proofs.WhyCodes.{first-out, first-in, second-out, second-in, inside-slot, entry-empty, entry-some}
+use Rattle.promises.proofs.WhyCodes.{first-out, first-in, second-out, second-in, inside-slot, entry-empty}
+use Rattle.promises.proofs.Serving.{not-served, no-glyph, unserved-exactly, served-or-9, served-exactly}
 use Rattle.promises.proofs.Vetting.{order-good, good-order, metrics-good, good-metrics, data-size}
 
 -- ---- the order
@@ -87,12 +90,12 @@ at-rank (Reason.RowsCut n) = refl
 at-rank Reason.Blank = refl
 at-rank Reason.Drawn = refl
 
-module _ (s : List ℕ) (rec : Record) (code len : ℕ) (at : Place) where
+module _ (s : List ℕ) (rec : Record) (mode : Mode) (code len : ℕ) (at : Place) where
   abbrev True : Reason → Type 0
-  True reason = TrueOf s rec code len at reason
+  True reason = TrueOf s rec mode code len at reason
 
   abbrev First : Reason → Type 0
-  First reason = FirstTrue s rec code len at reason
+  First reason = FirstTrue s rec mode code len at reason
 
   -- no reason of the first k is true
   abbrev None : ℕ → Type 0
@@ -109,9 +112,9 @@ module _ (s : List ℕ) (rec : Record) (code len : ℕ) (at : Place) where
       let e : rank other ≡ k = omega (arith, ltb-false (rank other) k l) in
       untrue (cutOf other) (subst True (at-rank other ∙ ap (λ (j : ℕ). ranked (cutOf other) j) e) t))
 
-  -- ---- a code's glyph
+  -- ---- the glyph that shows a code
 
-  module _ (fits : recordFits (length s) rec ≡ true) (g : GlyphIndex) (found : glyphOf s (rec .codes) code ≡ Found.Glyph g) where
+  module _ (fits : recordFits (length s) rec ≡ true) (g : GlyphIndex) (by : Supplier) (found : served s (rec .codes) mode code ≡ Served.Glyph g by) where
     abbrev b : BitmapData
     b = rec .bitmaps
 
@@ -121,12 +124,24 @@ module _ (s : List ℕ) (rec : Record) (code len : ℕ) (at : Place) where
     abbrev n : ℕ
     n = rowsIn s rec len at (g .0)
 
-    -- the code has this glyph and no other
-    of-glyph : (P : ℕ → Type 0) → OfGlyph s rec code P → P (g .0)
-    of-glyph P w = let same : Found.Glyph (record { 0 = w .glyph }) ≡ Found.Glyph g = sym (w .found) ∙ found in let e : w .glyph ≡ g .0 = cc in subst P e (w .holds)
+    -- this glyph shows the code, and no other
+    of-glyph : (P : ℕ → Type 0) → OfGlyph s rec mode code P → P (g .0)
+    of-glyph P w =
+        let same : Served.Glyph (record { 0 = w .glyph }) (w .by) ≡ Served.Glyph g by =
+        sym (served-exactly s rec mode code (w .glyph) (w .by) .1 (w .shown)) ∙ found in
+        let e : w .glyph ≡ g .0 = cc in
+        subst P e (w .holds)
 
-    its : (P : ℕ → Type 0) → P (g .0) → OfGlyph s rec code P
-    its P p = record { glyph = g .0; found = found; holds = p }
+    its : (P : ℕ → Type 0) → P (g .0) → OfGlyph s rec mode code P
+    its P p = record { glyph = g .0; by = by; shown = served-exactly s rec mode code (g .0) by .0 found; holds = p }
+
+    -- so that no reason of a code without one is true
+    never-coded : (P : Type 0) → OfCode s rec mode code P → ⊥
+    never-coded P w = not-served g by (refusal 9 0) (sym found ∙ unserved-exactly s rec mode code .1 (w .unshown))
+
+    none-coded : None 4
+    none-coded =
+        skip 3 (skip 2 (skip 1 (skip 0 none-first (λ k. never-coded _)) (λ k. never-coded _)) (λ k. never-coded _)) (λ k. never-coded _)
 
     pub short-beyond : rowsShort s b (g .0) (box .width) n ≡ true → ByteBeyond s rec len at (g .0)
     unfolding rowsShort bytesPast
@@ -189,32 +204,51 @@ module _ (s : List ℕ) (rec : Record) (code len : ℕ) (at : Place) where
         choose First (placeable m top) (λ u. placed-first (skip 5 none5 (λ k w. of-glyph _ w (metrics-good m top u))))
         (λ u. record { is-true = its _ (λ good. never (sym u ∙ good-metrics m top good)); none-before = none5 }))
 
-  -- the reason that is given is the first
-  given-first : recordFits (length s) rec ≡ true → First (reasonOf s rec code len at)
+  -- ---- a code that no glyph shows
+
+  module _ (unshown : Unshown s rec mode code) where
+    of-code : (P : Type 0) → P → OfCode s rec mode code P
+    of-code P p = record { unshown = unshown; holds = p }
+
+    -- "entry 65,535" is left, past the bounds
+    code-first : First (codeReason (rec .codes) code)
+    unfolding codeReason
+    code-first =
+        let c = rec .codes in
+        choose First (ltb 65535 code) (λ t. record { is-true = of-code _ (ltb-true 65535 code t); none-before = none-first })
+        (λ t. let none1 = skip 0 none-first (λ k w. let h = w .holds in omega (arith, ltb-false 65535 code t, h)) in
+        choose First (firstOutside c code) (λ u. record { is-true = of-code _ (first-out c code u); none-before = none1 })
+        (λ u. let none2 = skip 1 none1 (λ k w. first-in c code u (w .holds)) in
+        choose First (secondOutside c code) (λ v. record { is-true = of-code _ (second-out c code v); none-before = none2 })
+        (λ v.
+        let (i, stands) = inside-slot c code t u v in
+        let empty = entry-empty c code s i stands (refusal 9 0) (no-glyph s rec code (unshown .has-none)) in
+        record { is-true = of-code _ (record { index = i; stands = stands; empty = empty }); none-before = skip 2 none2 (λ k w. second-in c code v (w .holds)) })))
+
+  -- the reason that is given is the first, and speaks of the right code
+  abbrev FirstTold : Told → Type 0
+  FirstTold (Told.Because reason by) = First reason × SpokenOf s rec mode code by
+  FirstTold (Told.Refused r) = ⊥
+
+  given-first : recordFits (length s) rec ≡ true → FirstTold (reasonOf s rec mode code len at)
   unfolding reasonOf
   given-first fits =
-      let c = rec .codes in
-      choose First (ltb 65535 code) (λ t. record { is-true = ltb-true 65535 code t; none-before = none-first })
-      (λ t. let none1 = skip 0 none-first (λ k h. omega (arith, ltb-false 65535 code t, h)) in
-      choose First (firstOutside c code) (λ u. record { is-true = first-out c code u; none-before = none1 })
-      (λ u. let none2 = skip 1 none1 (λ k w. first-in c code u w) in
-      choose First (secondOutside c code) (λ v. record { is-true = second-out c code v; none-before = none2 })
-      (λ v. let none3 = skip 2 none2 (λ k w. second-in c code v w) in
-      by (inside-slot c code t u v) none3 (glyphOf s c code) refl))) where
-        by : ((i : ℕ) × (slotOf (rec .codes) code ≡ Slot.At i)) → None 3 → (x : Found) → glyphOf s (rec .codes) code ≡ x → First (entryReason s rec len at x)
-        by (i, stands) none (Found.Glyph g) e =
-            glyph-first fits g e (skip 3 none (λ k w. entry-some (rec .codes) code s (w .index) (w .stands) g e (w .empty)))
-        by (i, stands) none (Found.Refused r) e =
-            record { is-true = record { index = i; stands = stands; empty = entry-empty (rec .codes) code s i stands r e }; none-before = none }
+      ⊎-elim
+      (λ e. let u = unserved-exactly s rec mode code .0 e in rw e (code-first u, inr (u, refl)))
+      (λ (g, by, shown).
+      let e = served-exactly s rec mode code g by .1 shown in
+      let glyph : GlyphIndex = record { 0 = g } in
+      rw e (glyph-first fits glyph by e (none-coded fits glyph by e), inl (g, shown)))
+      (served-or-9 s rec mode code)
 
   -- ---- there is one first reason
 
-  -- how many rows of a code's glyph are cut
-  abbrev cutFor : Found → ℕ
-  cutFor (Found.Glyph g) = boxIn s rec (g .0) .height - rowsIn s rec len at (g .0)
-  cutFor (Found.Refused r) = 0
+  -- how many rows of the glyph are cut
+  abbrev cutFor : Served → ℕ
+  cutFor (Served.Glyph g by) = boxIn s rec (g .0) .height - rowsIn s rec len at (g .0)
+  cutFor (Served.Refused r) = 0
 
-  cut-is : (reason : Reason) → True reason → cutOf reason ≡ cond (eqb (rank reason) (rank (Reason.RowsCut 0))) (cutFor (glyphOf s (rec .codes) code)) 0
+  cut-is : (reason : Reason) → True reason → cutOf reason ≡ cond (eqb (rank reason) (rank (Reason.RowsCut 0))) (cutFor (served s (rec .codes) mode code)) 0
   cut-is Reason.AboveCodes w = refl
   cut-is Reason.FirstByte w = refl
   cut-is Reason.SecondByte w = refl
@@ -225,7 +259,7 @@ module _ (s : List ℕ) (rec : Record) (code len : ℕ) (at : Place) where
   cut-is Reason.BitOrder w = refl
   cut-is Reason.BitmapShort w = refl
   cut-is Reason.BufferShort w = refl
-  cut-is (Reason.RowsCut n) w = rw (w .found) (w .holds .1)
+  cut-is (Reason.RowsCut n) w = rw (served-exactly s rec mode code (w .glyph) (w .by) .1 (w .shown)) (w .holds .1)
   cut-is Reason.Blank w = refl
   cut-is Reason.Drawn w = refl
 
@@ -236,18 +270,18 @@ module _ (s : List ℕ) (rec : Record) (code len : ℕ) (at : Place) where
       (λ u.
       let same : rank q ≡ rank r = omega (arith, ltb-false (rank q) (rank r) t, ltb-false (rank r) (rank q) u) in
       let cut : cutOf q ≡ cutOf r =
-      cut-is q (f .is-true) ∙ ap (λ (k : ℕ). cond (eqb k (rank (Reason.RowsCut 0))) (cutFor (glyphOf s (rec .codes) code)) 0) same ∙ sym (cut-is r (g .is-true))
+      cut-is q (f .is-true) ∙ ap (λ (k : ℕ). cond (eqb k (rank (Reason.RowsCut 0))) (cutFor (served s (rec .codes) mode code)) 0) same ∙ sym (cut-is r (g .is-true))
       in
       at-rank q ∙ ap₂ ranked cut same ∙ sym (at-rank r)))
 
   -- ---- what `why` answers
 
-  told-because : (fits within : Bool) (given reason : Reason) (six fifteen : Refusal)
-      → cond fits (cond within (Told.Because given) (Told.Refused fifteen)) (Told.Refused six) ≡ Told.Because reason
-      → (fits ≡ true) × (within ≡ true) × (given ≡ reason)
-  told-because true true given reason six fifteen e = let is : given ≡ reason = cc in (refl, refl, is)
-  told-because true false given reason six fifteen e = let z : _≡_ {A = ℕ} 0 1 = cc in absurd (omega arith)
-  told-because false within given reason six fifteen e = let z : _≡_ {A = ℕ} 0 1 = cc in absurd (omega arith)
+  told-because : (fits within : Bool) (given : Told) (reason : Reason) (by : Supplier) (six fifteen : Refusal)
+      → cond fits (cond within given (Told.Refused fifteen)) (Told.Refused six) ≡ Told.Because reason by
+      → (fits ≡ true) × (within ≡ true) × (given ≡ Told.Because reason by)
+  told-because true true given reason by six fifteen e = (refl, refl, e)
+  told-because true false given reason by six fifteen e = let z : _≡_ {A = ℕ} 0 1 = cc in absurd (omega arith)
+  told-because false within given reason by six fifteen e = let z : _≡_ {A = ℕ} 0 1 = cc in absurd (omega arith)
 
   asked-limits : okPlace at ≡ true → recordFits (length s) rec ≡ true → Askable s rec at
   asked-limits ok fits =
@@ -265,12 +299,29 @@ module _ (s : List ℕ) (rec : Record) (code len : ℕ) (at : Place) where
   within-limits a =
       ok-place (at .p) (at .stride) (at .scale) (a .start-high) (a .stride-low) (a .stride-high) (a .scale-low) (a .scale-high)
 
-  -- a reason is given if and only if neither 6 nor 15 refuses, it is true, and none before it is
-  pub why-first : (reason : Reason) → (whyOf s rec code len at ≡ Told.Because reason) ↔ (Askable s rec at × First reason)
+  -- there is one code to speak of
+  one-spoken : (x y : Supplier) → SpokenOf s rec mode code x → SpokenOf s rec mode code y → x ≡ y
+  one-spoken x y (inl (g, p)) (inl (h, q)) =
+      let same : Served.Glyph (record { 0 = g }) x ≡ Served.Glyph (record { 0 = h }) y =
+      sym (served-exactly s rec mode code g x .1 p) ∙ served-exactly s rec mode code h y .1 q in
+      cc
+  one-spoken x y (inl (g, p)) (inr (u, e)) =
+      absurd (not-served (record { 0 = g }) x (refusal 9 0) (sym (served-exactly s rec mode code g x .1 p) ∙ unserved-exactly s rec mode code .1 u))
+  one-spoken x y (inr (u, e)) (inl (h, q)) =
+      absurd (not-served (record { 0 = h }) y (refusal 9 0) (sym (served-exactly s rec mode code h y .1 q) ∙ unserved-exactly s rec mode code .1 u))
+  one-spoken x y (inr (u, e)) (inr (v, f)) = e ∙ sym f
+
+  one-told : (told : Told) (reason : Reason) (by : Supplier) → FirstTold told → First reason → SpokenOf s rec mode code by → told ≡ Told.Because reason by
+  one-told (Told.Because given other) reason by (first, spoken) f q = ap₂ Told.Because (one-first given reason first f) (one-spoken other by spoken q)
+  one-told (Told.Refused r) reason by none f q = absurd none
+
+  -- a reason is given if and only if neither 6 nor 15 refuses, it is true, and none before it is; and it speaks of the right code
+  pub why-first : (reason : Reason) (by : Supplier)
+      → (whyOf s rec mode code len at ≡ Told.Because reason by) ↔ (Askable s rec at × First reason × SpokenOf s rec mode code by)
   unfolding whyOf
-  why-first reason = (
+  why-first reason by = (
     λ e.
-        let (fits, ok, is) = told-because (recordFits (length s) rec) (okPlace at) (reasonOf s rec code len at) reason (refusal 6 0) (refusal 15 0) e in
-        (asked-limits ok fits, subst First is (given-first fits)),
-    λ (a, f). rw (a .fits, within-limits a) (ap Told.Because (one-first (reasonOf s rec code len at) reason (given-first (a .fits)) f)),
+        let (fits, ok, is) = told-because (recordFits (length s) rec) (okPlace at) (reasonOf s rec mode code len at) reason by (refusal 6 0) (refusal 15 0) e in
+        (asked-limits ok fits, subst FirstTold is (given-first fits)),
+    λ (a, f, q). rw (a .fits, within-limits a) (one-told (reasonOf s rec mode code len at) reason by (given-first (a .fits)) f q),
   )

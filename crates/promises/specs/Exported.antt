@@ -10,6 +10,7 @@ use Rattle.tables.specs.Fits.{tested}
 use Rattle.tables.specs.Values.{metricsValues, acceleratorValues, recordValues}
 use Rattle.tables.specs.declared.Record.{Record}
 use Rattle.bitmaps.specs.Draw.{rowsValues}
+use Rattle.lookup.specs.Served.{supplierValues}
 use Rattle.place.specs.Info.{infoValues}
 use Rattle.why.specs.Why.{reasonValues}
 use Rattle.thalluskin.specs.declared.FontAnswer.{FontAnswer}
@@ -43,7 +44,7 @@ saysProperty a =
     ∷ cond (a .«is_string») (pos 1 ∷ pos (a .string .start) ∷ pos (a .string .len) ∷ []) (pos 0 ∷ pos (a .number) ∷ []))
 
 abbrev pub saysGlyph : GlyphAnswer → Said
-saysGlyph a = readOff (a .refusal) (a .place) (pos (a .glyph .0) ∷ [])
+saysGlyph a = readOff (a .refusal) (a .place) (pos (a .glyph .0) ∷ supplierValues (a .by))
 
 abbrev pub saysName : NameAnswer → Said
 saysName a = readOff (a .refusal) (a .place) (pos (a .name .start) ∷ pos (a .name .len) ∷ [])
@@ -58,16 +59,16 @@ abbrev pub saysExtent : ExtentAnswer → Said
 saysExtent a = readOff (a .refusal) (a .place) (pos (a .extent .height) ∷ pos (a .extent .width) ∷ [])
 
 abbrev pub saysInfo : InfoAnswer → Said
-saysInfo a = readOff (a .refusal) (a .place) (infoValues (a .info))
+saysInfo a = readOff (a .refusal) (a .place) (infoValues (a .info) ++ supplierValues (a .by))
 
 abbrev pub saysRows : RowsAnswer → Said
 saysRows a = readOff (a .refusal) (a .place) (rowsValues (a .rows))
 
 abbrev pub saysChar : CharAnswer → Said
-saysChar a = readOff (a .refusal) (a .place) (infoValues (a .info) ++ rowsValues (a .rows))
+saysChar a = readOff (a .refusal) (a .place) (infoValues (a .info) ++ rowsValues (a .rows) ++ supplierValues (a .by))
 
 abbrev pub saysWhy : WhyAnswer → Said
-saysWhy a = readOff (a .refusal) (a .place) (reasonValues (a .reason))
+saysWhy a = readOff (a .refusal) (a .place) (reasonValues (a .reason) ++ supplierValues (a .by))
 
 abbrev pub saysUnpack : UnpackAnswer → Said
 saysUnpack a = readOff (a .refusal) (a .place) (pos (a .rows) ∷ [])

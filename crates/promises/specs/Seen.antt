@@ -10,7 +10,8 @@ use Rattle.reads.specs.Said.{Said, refuses}
 use Rattle.tables.specs.declared.Record.{Record}
 use Rattle.load.specs.Load.{loaded}
 use Rattle.load.specs.declared.Loaded.{Loaded}
-use Rattle.lookup.specs.Lookup.{getGlyph, saidFound}
+use Rattle.modes.specs.Modes.{plain}
+use Rattle.lookup.specs.Served.{getGlyph, saidServed}
 use Rattle.metrics.specs.Measure.{getMetrics, saidMeasured}
 use Rattle.bitmaps.specs.Place.{placeAt}
 use Rattle.glyphs.specs.Char.{drawChar, charLeaves, saidChar}
@@ -27,7 +28,7 @@ pub record Seen : Type 0 where
   pub answer : Said
   pub pixels : List ℕ
 
--- what is asked; start is 0
+-- what is asked in the plain mode; start is 0
 pub data Ask : Type 0 where
   -- draw_char: the code, then stride, pixels, scale
   char : ℕ → ℕ → ℕ → ℕ → Ask
@@ -53,7 +54,7 @@ abbrev pub seenChar : List ℕ → Record → ℕ → ℕ → ℕ → CharDrawn 
 seenChar s rec pixels stride scale r = record { answer = saidChar r; pixels = placesFrom 0 (charLeaves s rec (placeAt 0 stride scale) 1 r (cleared pixels)) }
 
 abbrev pub seenText : List ℕ → Record → List ℕ → ℕ → Layout → TextDrawn → Seen
-seenText s rec t pixels lay r = record { answer = saidText r; pixels = placesFrom 0 (stringLeaves s rec t lay 1 r (cleared pixels)) }
+seenText s rec t pixels lay r = record { answer = saidText r; pixels = placesFrom 0 (stringLeaves s rec plain t lay 1 r (cleared pixels)) }
 
 abbrev pub layout : ℕ → Wrap → Layout
 layout stride wrap = record { start = 0; wrap = wrap; stride = stride; scale = 1 }
@@ -62,10 +63,10 @@ layout stride wrap = record { start = 0; wrap = wrap; stride = stride; scale = 1
 unfoldable pub asked : List ℕ → Loaded → Ask → Seen
 asked s (Loaded.Refused r) a = record { answer = refuses r; pixels = [] }
 asked s (Loaded.Font rec) (char code stride pixels scale) =
-    seenChar s rec pixels stride scale (drawChar s rec code pixels (placeAt 0 stride scale))
+    seenChar s rec pixels stride scale (drawChar s rec plain code pixels (placeAt 0 stride scale))
 asked s (Loaded.Font rec) (text t stride pixels wrap) =
-    seenText s rec (typed t) pixels (layout stride wrap) (drawString s rec (typed t) pixels (layout stride wrap))
-asked s (Loaded.Font rec) (glyph code) = record { answer = saidFound (getGlyph s rec code); pixels = [] }
+    seenText s rec (typed t) pixels (layout stride wrap) (drawString s rec plain (typed t) pixels (layout stride wrap))
+asked s (Loaded.Font rec) (glyph code) = record { answer = saidServed (getGlyph s rec plain code); pixels = [] }
 asked s (Loaded.Font rec) (metric b) = record { answer = saidMeasured (getMetrics s rec 0); pixels = [] }
 
 -- the bytes that an ask is about

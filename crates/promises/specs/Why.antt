@@ -1,7 +1,7 @@
 -- What each reason says of the font's bytes and of the arguments, in plain logic, and which stand before which. From document 02: "names one
 -- reason: code above 65,535, outside the first-byte bounds (unless both are 0), outside the second-byte bounds (the whole code if they are),
 -- entry 65,535, refusals 10 to 14 or 16, rows cut with how many, no set bit in the drawn rows, or drawn. The first in this order is given and
--- proved true of the font."
+-- proved true of the font"; "Placing, characters, texts and R-1 pass the longer answer on (R-1's first four reasons only with 9)".
 use Prim.Native.Nat.{ℕ, _+_, _-_, _*_, _/_, _%_, _≤_, _<_}
 use mathlib.Core.Path.{_≡_}
 use mathlib.Core.Bool.{Bool, true, cond}
@@ -15,8 +15,11 @@ use Rattle.tables.specs.Fits.{recordFits}
 use Rattle.tables.specs.declared.BitmapData.{BitmapData}
 use Rattle.tables.specs.declared.EncodingData.{EncodingData}
 use Rattle.tables.specs.declared.Record.{Record}
+use Rattle.modes.specs.declared.Mode.{Mode}
 use Rattle.lookup.specs.Lookup.{slotOf}
+use Rattle.lookup.specs.Served.{itself}
 use Rattle.lookup.specs.declared.Slot.{Slot}
+use Rattle.lookup.specs.declared.Supplier.{Supplier}
 use Rattle.metrics.specs.Measure.{glyphMetrics}
 use Rattle.bitmaps.specs.Place.{Place}
 use Rattle.bitmaps.specs.Cut.{drawnRows}
@@ -30,7 +33,8 @@ use Rattle.glyphs.specs.declared.CharDrawn.{CharDrawn}
 use Rattle.why.specs.declared.Reason.{Reason}
 use Rattle.why.specs.declared.Told.{Told}
 use Rattle.promises.specs.Drawing.{Coloured}
-use Rattle.promises.specs.Passing.{HasGlyph, MetricsGood, OrderGood}
+use Rattle.promises.specs.Passing.{MetricsGood, OrderGood}
+use Rattle.promises.specs.Serving.{ShownBy, Unshown}
 
 -- ---- a code and its table
 
@@ -94,29 +98,35 @@ module _ (s : List ℕ) (rec : Record) (len : ℕ) (at : Place) (g : ℕ) where
     pub c-below : c < boxIn s rec g .width
     pub is-set : bitIn r c ≡ true
 
--- it holds of the code's glyph
-pub record OfGlyph (s : List ℕ) (rec : Record) (code : ℕ) (P : ℕ → Type 0) : Type 0 where
+-- it holds of the glyph that shows the code in this mode
+pub record OfGlyph (s : List ℕ) (rec : Record) (mode : Mode) (code : ℕ) (P : ℕ → Type 0) : Type 0 where
   pub glyph : ℕ
-  pub found : HasGlyph s rec code glyph
+  pub by : Supplier
+  pub shown : ShownBy s rec mode code glyph by
   pub holds : P glyph
+
+-- "only with 9": it holds of the code asked for, which no glyph shows in this mode
+pub record OfCode (s : List ℕ) (rec : Record) (mode : Mode) (code : ℕ) (P : Type 0) : Type 0 where
+  pub unshown : Unshown s rec mode code
+  pub holds : P
 
 -- ---- the reasons
 
 -- what a reason says
-abbrev pub TrueOf : List ℕ → Record → ℕ → ℕ → Place → Reason → Type 0
-TrueOf s rec code len at Reason.AboveCodes = 65535 < code
-TrueOf s rec code len at Reason.FirstByte = FirstOutside (rec .codes) code
-TrueOf s rec code len at Reason.SecondByte = SecondOutside (rec .codes) code
-TrueOf s rec code len at Reason.EmptyEntry = EntryEmpty s (rec .codes) code
-TrueOf s rec code len at Reason.NoMetrics = OfGlyph s rec code (λ g. rec .metrics .count ≤ g)
-TrueOf s rec code len at Reason.BadMetrics = OfGlyph s rec code (λ g. MetricsGood (glyphMetrics s (rec .metrics) g) (boundsOf rec .ascent) → ⊥)
-TrueOf s rec code len at Reason.NoBitmap = OfGlyph s rec code (λ g. rec .bitmaps .count ≤ g)
-TrueOf s rec code len at Reason.BitOrder = OrderGood (rec .bitmaps) → ⊥
-TrueOf s rec code len at Reason.BitmapShort = OfGlyph s rec code (λ g. ByteBeyond s rec len at g)
-TrueOf s rec code len at Reason.BufferShort = OfGlyph s rec code (λ g. PixelBeyond s rec len at g)
-TrueOf s rec code len at (Reason.RowsCut n) = OfGlyph s rec code (λ g. Cut s rec len at g n)
-TrueOf s rec code len at Reason.Blank = OfGlyph s rec code (λ g. SomeSet s rec len at g → ⊥)
-TrueOf s rec code len at Reason.Drawn = OfGlyph s rec code (λ g. SomeSet s rec len at g)
+abbrev pub TrueOf : List ℕ → Record → Mode → ℕ → ℕ → Place → Reason → Type 0
+TrueOf s rec mode code len at Reason.AboveCodes = OfCode s rec mode code (65535 < code)
+TrueOf s rec mode code len at Reason.FirstByte = OfCode s rec mode code (FirstOutside (rec .codes) code)
+TrueOf s rec mode code len at Reason.SecondByte = OfCode s rec mode code (SecondOutside (rec .codes) code)
+TrueOf s rec mode code len at Reason.EmptyEntry = OfCode s rec mode code (EntryEmpty s (rec .codes) code)
+TrueOf s rec mode code len at Reason.NoMetrics = OfGlyph s rec mode code (λ g. rec .metrics .count ≤ g)
+TrueOf s rec mode code len at Reason.BadMetrics = OfGlyph s rec mode code (λ g. MetricsGood (glyphMetrics s (rec .metrics) g) (boundsOf rec .ascent) → ⊥)
+TrueOf s rec mode code len at Reason.NoBitmap = OfGlyph s rec mode code (λ g. rec .bitmaps .count ≤ g)
+TrueOf s rec mode code len at Reason.BitOrder = OrderGood (rec .bitmaps) → ⊥
+TrueOf s rec mode code len at Reason.BitmapShort = OfGlyph s rec mode code (λ g. ByteBeyond s rec len at g)
+TrueOf s rec mode code len at Reason.BufferShort = OfGlyph s rec mode code (λ g. PixelBeyond s rec len at g)
+TrueOf s rec mode code len at (Reason.RowsCut n) = OfGlyph s rec mode code (λ g. Cut s rec len at g n)
+TrueOf s rec mode code len at Reason.Blank = OfGlyph s rec mode code (λ g. SomeSet s rec len at g → ⊥)
+TrueOf s rec mode code len at Reason.Drawn = OfGlyph s rec mode code (λ g. SomeSet s rec len at g)
 
 -- "in this order"
 abbrev pub rank : Reason → ℕ
@@ -135,9 +145,13 @@ rank Reason.Blank = 11
 rank Reason.Drawn = 12
 
 -- "The first in this order": it is true, and none before it is
-pub record FirstTrue (s : List ℕ) (rec : Record) (code len : ℕ) (at : Place) (reason : Reason) : Type 0 where
-  pub is-true : TrueOf s rec code len at reason
-  pub none-before : (other : Reason) → rank other < rank reason → TrueOf s rec code len at other → ⊥
+pub record FirstTrue (s : List ℕ) (rec : Record) (mode : Mode) (code len : ℕ) (at : Place) (reason : Reason) : Type 0 where
+  pub is-true : TrueOf s rec mode code len at reason
+  pub none-before : (other : Reason) → rank other < rank reason → TrueOf s rec mode code len at other → ⊥
+
+-- the code that the reason speaks of: the one that supplied the glyph, or the one asked for, which no glyph shows
+abbrev pub SpokenOf : List ℕ → Record → Mode → ℕ → Supplier → Type 0
+SpokenOf s rec mode code by = ((g : ℕ) × ShownBy s rec mode code g by) ⊎ (Unshown s rec mode code × (by ≡ itself code))
 
 -- neither 6 nor 15 refuses
 pub record Askable (s : List ℕ) (rec : Record) (at : Place) : Type 0 where
@@ -173,7 +187,7 @@ pub data Outcome : Type 0 where
   rows : ℕ → Outcome
 
 abbrev pub outcomeOf : BitmapData → CharDrawn → Outcome
-outcomeOf b (CharDrawn.Glyph i r) = cond (noBitmap b (i .glyph .0)) unpictured (rows (r .dropped))
+outcomeOf b (CharDrawn.Glyph i r by) = cond (noBitmap b (i .glyph .0)) unpictured (rows (r .dropped))
 outcomeOf b (CharDrawn.Refused r) = refused r
 
 -- what goes with each reason; 9 with the first four
@@ -193,5 +207,5 @@ outcomeWith Reason.Blank = rows 0
 outcomeWith Reason.Drawn = rows 0
 
 abbrev pub toldOutcome : Told → Outcome
-toldOutcome (Told.Because reason) = outcomeWith reason
+toldOutcome (Told.Because reason by) = outcomeWith reason
 toldOutcome (Told.Refused r) = refused r
