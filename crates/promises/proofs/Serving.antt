@@ -1,6 +1,6 @@
 -- What lookup answers in a mode is what plain logic says, for every font and code: with which glyph, supplied by which code, and when with 9.
 use Prim.Native.Nat.{ℕ, _+_, _*_}
-use mathlib.Core.Path.{_≡_, refl, sym, subst, _∙_}
+use mathlib.Core.Path.{_≡_, refl, sym, ap, subst, _∙_}
 use mathlib.Core.Bool.{true}
 use mathlib.Core.List.{List}
 use mathlib.Core.Logic.{_⊎_, _↔_, inl, inr, ⊎-elim}
@@ -24,7 +24,10 @@ use Rattle.promises.specs.Passing.{HasGlyph}
 use Rattle.promises.specs.Serving.{HasNone, ShownBy, Unshown}
 
 same-served : (g h : ℕ) (x y : Supplier) → Served.Glyph (record { 0 = g }) x ≡ Served.Glyph (record { 0 = h }) y → (g ≡ h) × (x ≡ y)
-same-served g h x y e = let glyph : g ≡ h = cc in let supplier : x ≡ y = cc in (glyph, supplier)
+same-served g h x y e =
+    let glyph : _≡_ {A = GlyphIndex} (record { 0 = g }) (record { 0 = h }) = cc in
+    let supplier : x ≡ y = cc in
+    (ap (λ (i : GlyphIndex). i .0) glyph, supplier)
 
 pub not-served : (g : GlyphIndex) (by : Supplier) (r : Refusal) → Served.Glyph g by ≡ Served.Refused r → ⊥
 not-served g by r e = let z : _≡_ {A = ℕ} 0 1 = cc in omega arith

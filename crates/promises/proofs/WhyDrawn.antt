@@ -3,7 +3,7 @@
 use Prim.Native.Nat.{ℕ, _-_}
 use mathlib.Core.Path.{_≡_, refl, ap}
 use mathlib.Core.List.{List}
-use mathlib.Core.Logic.{⊎-elim}
+use mathlib.Core.Logic.{_⊎_, inl, inr}
 use native.Mathlib.Omega.{arith}
 use lib.Dec.{leb, ltb}
 use lib.ListN.{length}
@@ -15,6 +15,8 @@ use Rattle.tables.specs.Fits.{recordFits}
 use Rattle.tables.specs.declared.BitmapData.{BitmapData}
 use Rattle.tables.specs.declared.Record.{Record}
 use Rattle.modes.specs.declared.Mode.{Mode}
+use Rattle.lookup.specs.Served.{served}
+use Rattle.lookup.specs.declared.Served.{Served}
 use Rattle.lookup.specs.declared.Supplier.{Supplier}
 use Rattle.metrics.specs.Measure.{glyphMetrics, metricsOf}
 use Rattle.bitmaps.specs.Place.{Place}
@@ -32,6 +34,7 @@ use Rattle.why.specs.Codes.{firstOutside, secondOutside}
 use Rattle.why.specs.Reasons.{someBit, drawnReason, placedReason, glyphReason, codeReason, reasonOf}
 use Rattle.why.specs.Why.{whyOf}
 use Rattle.why.specs.declared.Reason.{Reason}
+use Rattle.promises.specs.Serving.{ShownBy}
 use Rattle.promises.specs.Why.{Outcome, refused, rows, outcomeOf, outcomeWith, toldOutcome, boxIn}
 use Rattle.promises.proofs.Serving.{served-or-9, served-exactly}
 
@@ -86,10 +89,11 @@ module _ (s : List ℕ) (rec : Record) (mode : Mode) (code len : ℕ) (at : Plac
 
   code-outcome : outcome (prepared s rec mode code) ≡ toldOutcome (reasonOf s rec mode code len at)
   unfolding reasonOf prepared
-  code-outcome =
-      ⊎-elim (λ e. rw (e, e) none-outcome)
-      (λ (g, by, shown). let e = served-exactly s rec mode code g by .1 shown in rw (e, e) (glyph-outcome by (record { 0 = g })))
-      (served-or-9 s rec mode code)
+  code-outcome = by (served-or-9 s rec mode code) where
+    by : (served s (rec .codes) mode code ≡ Served.Refused (refusal 9 0)) ⊎ ((g : ℕ) × (p : Supplier) × ShownBy s rec mode code g p)
+        → outcome (prepared s rec mode code) ≡ toldOutcome (reasonOf s rec mode code len at)
+    by (inl e) = rw e none-outcome
+    by (inr (g, p, shown)) = rw (served-exactly s rec mode code g p .1 shown) (glyph-outcome p (record { 0 = g }))
 
   -- what drawing the character comes to is what goes with the reason that `why` gives, and with its refusal
   pub as-drawn : outcomeOf (rec .bitmaps) (drawChar s rec mode code len at) ≡ toldOutcome (whyOf s rec mode code len at)

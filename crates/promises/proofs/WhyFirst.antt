@@ -3,7 +3,7 @@ use Prim.Native.Nat.{ℕ, _+_, _-_, _<_}
 use mathlib.Core.Path.{_≡_, refl, sym, ap, ap₂, subst, _∙_}
 use mathlib.Core.Bool.{Bool, true, false, cond}
 use mathlib.Core.List.{List, [], _∷_}
-use mathlib.Core.Logic.{_↔_, inl, inr, ⊎-elim}
+use mathlib.Core.Logic.{_⊎_, _↔_, inl, inr}
 use native.Mathlib.Omega.{arith}
 use lib.Dec.{leb, ltb, eqb}
 use lib.ListN.{length, getD}
@@ -41,7 +41,7 @@ use Rattle.why.specs.declared.Reason.{Reason}
 use Rattle.why.specs.declared.Told.{Told}
 use Rattle.why.proofs.SomeBit.{bit-found, found-bit}
 use Rattle.promises.specs.Why.{boxIn, rowsIn, bitIn, ByteBeyond, SomeSet, OfGlyph, OfCode, TrueOf, rank, FirstTrue, SpokenOf, Askable}
-use Rattle.promises.specs.Serving.{Unshown}
+use Rattle.promises.specs.Serving.{ShownBy, Unshown}
 use Rattle.promises.proofs.Coloured.{past-dot, dot-past}
 use Rattle.promises.proofs.Texts.{ok-place}
 use Rattle.promises.proofs.WhyCodes.{first-out, first-in, second-out, second-in, inside-slot, entry-empty}
@@ -232,14 +232,14 @@ module _ (s : List ℕ) (rec : Record) (mode : Mode) (code len : ℕ) (at : Plac
 
   given-first : recordFits (length s) rec ≡ true → FirstTold (reasonOf s rec mode code len at)
   unfolding reasonOf
-  given-first fits =
-      ⊎-elim
-      (λ e. let u = unserved-exactly s rec mode code .0 e in rw e (code-first u, inr (u, refl)))
-      (λ (g, by, shown).
-      let e = served-exactly s rec mode code g by .1 shown in
-      let glyph : GlyphIndex = record { 0 = g } in
-      rw e (glyph-first fits glyph by e (none-coded fits glyph by e), inl (g, shown)))
-      (served-or-9 s rec mode code)
+  given-first fits = by (served-or-9 s rec mode code) where
+    by : (served s (rec .codes) mode code ≡ Served.Refused (refusal 9 0)) ⊎ ((g : ℕ) × (by : Supplier) × ShownBy s rec mode code g by)
+        → FirstTold (reasonOf s rec mode code len at)
+    by (inl e) = let u = unserved-exactly s rec mode code .0 e in rw e (code-first u, inr (u, refl))
+    by (inr (g, p, shown)) =
+        let e = served-exactly s rec mode code g p .1 shown in
+        let glyph : GlyphIndex = record { 0 = g } in
+        rw e (glyph-first fits glyph p e (none-coded fits glyph p e), inl (g, shown))
 
   -- ---- there is one first reason
 
@@ -322,6 +322,7 @@ module _ (s : List ℕ) (rec : Record) (mode : Mode) (code len : ℕ) (at : Plac
   why-first reason by = (
     λ e.
         let (fits, ok, is) = told-because (recordFits (length s) rec) (okPlace at) (reasonOf s rec mode code len at) reason by (refusal 6 0) (refusal 15 0) e in
-        (asked-limits ok fits, subst FirstTold is (given-first fits)),
+        let (first, spoken) = subst FirstTold is (given-first fits) in
+        (asked-limits ok fits, first, spoken),
     λ (a, f, q). rw (a .fits, within-limits a) (one-told (reasonOf s rec mode code len at) reason by (given-first (a .fits)) f q),
   )
