@@ -1,4 +1,5 @@
 // Answers in words, with no line end.
+use crate::record::flag;
 use bitmaps::Drawn;
 use bitmaps::Rows;
 use bitmaps::Unpacked;
@@ -7,8 +8,9 @@ use console::refusal;
 use console::say;
 use console::say_with;
 use glyphs::CharDrawn;
+use lookup::Supplier;
+use place::CharPrepared;
 use place::GlyphInfo;
-use place::Prepared;
 use text::TextDrawn;
 use utf8::Checked;
 use utf8::Step;
@@ -36,6 +38,13 @@ fn info_words(i: GlyphInfo) {
     );
 }
 
+fn supplier_words(by: Supplier) {
+    say_with(
+        b", code #, default #",
+        &[by.code.0 as usize, flag(by.is_default)],
+    );
+}
+
 pub(crate) fn drawn(answer: Drawn) {
     match answer {
         Drawn::Rows(rows) => row_words(rows),
@@ -45,10 +54,11 @@ pub(crate) fn drawn(answer: Drawn) {
 
 pub(crate) fn char_drawn(answer: CharDrawn) {
     match answer {
-        CharDrawn::Glyph(info, rows) => {
+        CharDrawn::Glyph(info, rows, by) => {
             info_words(info);
             say(b", ");
             row_words(rows);
+            supplier_words(by);
         }
         CharDrawn::Refused(r) => refusal(r),
     }
@@ -56,9 +66,10 @@ pub(crate) fn char_drawn(answer: CharDrawn) {
 
 pub(crate) fn because(answer: Told) {
     match answer {
-        Told::Because(reason) => {
+        Told::Because(reason, by) => {
             let told = reason_number(reason);
             say_with(b"#, cut #", &[told.number as usize, told.cut as usize]);
+            supplier_words(by);
         }
         Told::Refused(r) => refusal(r),
     }
@@ -93,9 +104,12 @@ pub(crate) fn checked(answer: Checked) {
     }
 }
 
-pub(crate) fn prepared(answer: Prepared) {
+pub(crate) fn prepared(answer: CharPrepared) {
     match answer {
-        Prepared::Info(info) => info_words(info),
-        Prepared::Refused(r) => refusal(r),
+        CharPrepared::Info(info, by) => {
+            info_words(info);
+            supplier_words(by);
+        }
+        CharPrepared::Refused(r) => refusal(r),
     }
 }

@@ -2,14 +2,17 @@
 // each number is read where it is used:
 //
 //      0  the kind
-//      1  of a change the field, see `changes`; of a text 1 if it wraps
-//      2  the glyph
+//      1  the mode's number; of a change the field, see `changes`
+//      2  the glyph; of a text 1 if it wraps
 //      4  the code, a property's number, or a refusal's; of a text its place, counted from the font's first byte
 //      8  the width; of a change the value; of a text where it wraps
 //     16  the height; of a text its length
 //     24  the pads, at the top and at the left
 //     28  the colour
 //     32  the buffer's length, the start, the stride, the scale
+use modes::Mode;
+use modes::is_known;
+use modes::mode_of;
 use names::Span;
 use names::part_of;
 use place::GlyphInfo;
@@ -70,6 +73,18 @@ pub(crate) fn kind_at(c: &[u8]) -> u8 {
     byte_at(c, 0, 0)
 }
 
+fn mode_number(c: &[u8]) -> u32 {
+    byte_at(c, 0, 1) as u32
+}
+
+pub(crate) fn has_mode(c: &[u8]) -> bool {
+    is_known(mode_number(c))
+}
+
+pub(crate) fn mode_at(c: &[u8]) -> Mode {
+    mode_of(mode_number(c))
+}
+
 pub(crate) fn number_at(c: &[u8]) -> u32 {
     u32_at(c, 0, 4, false)
 }
@@ -104,7 +119,7 @@ pub(crate) fn info_at(c: &[u8]) -> GlyphInfo {
 }
 
 pub(crate) fn wrap_at(c: &[u8]) -> Wrap {
-    if byte_at(c, 0, 1) == 0 {
+    if byte_at(c, 0, 2) == 0 {
         return Wrap::Never;
     }
     Wrap::At(size_at(c, 8) as u64)

@@ -14,6 +14,7 @@ use crate::calls::colour_at;
 use crate::calls::glyph_at;
 use crate::calls::info_at;
 use crate::calls::kind_at;
+use crate::calls::mode_at;
 use crate::calls::size_at;
 use crate::calls::wrap_at;
 use console::fill_bytes;
@@ -44,12 +45,39 @@ fn dry(font: &[u8], rec: Record, c: &[u8], text: &[u8]) {
             stride,
             scale,
         )),
-        GLYPH => drawn(glyphs::glyph_check(font, rec, info_at(c), len, start, stride, scale)),
-        CHAR => char_drawn(glyphs::char_check(font, rec, code_at(c), len, start, stride, scale)),
-        UNPACK => unpacked(glyphs::unpack_check(font, rec, info_at(c), len, start, stride)),
+        GLYPH => drawn(glyphs::glyph_check(
+            font,
+            rec,
+            mode_at(c),
+            info_at(c),
+            len,
+            start,
+            stride,
+            scale,
+        )),
+        CHAR => char_drawn(glyphs::char_check(
+            font,
+            rec,
+            mode_at(c),
+            code_at(c),
+            len,
+            start,
+            stride,
+            scale,
+        )),
+        UNPACK => unpacked(glyphs::unpack_check(
+            font,
+            rec,
+            mode_at(c),
+            info_at(c),
+            len,
+            start,
+            stride,
+        )),
         TEXT => text_drawn(text::text_check(
             font,
             rec,
+            mode_at(c),
             text,
             len,
             start,
@@ -91,6 +119,7 @@ fn wet(font: &[u8], rec: Record, c: &[u8], text: &[u8], buf: &mut [u32]) {
         GLYPH => drawn(glyphs::draw_glyph(
             font,
             rec,
+            mode_at(c),
             info_at(c),
             buf,
             start,
@@ -101,6 +130,7 @@ fn wet(font: &[u8], rec: Record, c: &[u8], text: &[u8], buf: &mut [u32]) {
         CHAR => char_drawn(glyphs::draw_char(
             font,
             rec,
+            mode_at(c),
             code_at(c),
             buf,
             start,
@@ -111,6 +141,7 @@ fn wet(font: &[u8], rec: Record, c: &[u8], text: &[u8], buf: &mut [u32]) {
         TEXT => text_drawn(text::draw_string(
             font,
             rec,
+            mode_at(c),
             text,
             buf,
             start,
@@ -155,6 +186,7 @@ fn with_bytes(font: &[u8], rec: Record, c: &[u8], buf: &mut [u8]) {
     let answer = glyphs::unpack_glyph(
         font,
         rec,
+        mode_at(c),
         info_at(c),
         &mut buf[0..n],
         size_at(c, 40),
@@ -172,6 +204,7 @@ fn reason(font: &[u8], rec: Record, c: &[u8]) {
     because(why::why(
         font,
         rec,
+        mode_at(c),
         code_at(c),
         size_at(c, 32),
         size_at(c, 40),

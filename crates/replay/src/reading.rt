@@ -11,8 +11,10 @@ use crate::calls::STRICT;
 use crate::calls::code_at;
 use crate::calls::glyph_at;
 use crate::calls::kind_at;
+use crate::calls::mode_at;
 use crate::calls::number_at;
 use crate::record::accelerators;
+use crate::record::flag;
 use crate::record::measures;
 use crate::record::record_words;
 use console::number;
@@ -21,7 +23,7 @@ use console::say;
 use console::say_with;
 use load::Loaded;
 use load::load_strict;
-use lookup::Found;
+use lookup::Served;
 use metrics::Accelerated;
 use metrics::Measured;
 use names::Named;
@@ -50,10 +52,13 @@ fn prop(answer: PropFound) {
     }
 }
 
-fn glyph(answer: Found) {
+fn glyph(answer: Served) {
     match answer {
-        Found::Glyph(g) => number(b"", g.0 as usize),
-        Found::Refused(r) => refusal(r),
+        Served::Glyph(g, by) => say_with(
+            b"# # #",
+            &[g.0 as usize, by.code.0 as usize, flag(by.is_default)],
+        ),
+        Served::Refused(r) => refusal(r),
     }
 }
 
@@ -91,12 +96,12 @@ fn sized(answer: Sized) {
     }
 }
 
-// The code, where it has a glyph.
+// The code, where it has a glyph of its own.
 fn with_glyph(font: &[u8], rec: Record, code: CharCode) {
-    let found = lookup::get_glyph(font, rec, code);
+    let found = lookup::get_glyph(font, rec, modes::plain(), code);
     match found {
-        Found::Glyph(_) => number(b" ", code.0 as usize),
-        Found::Refused(_) => {}
+        Served::Glyph(_, _) => number(b" ", code.0 as usize),
+        Served::Refused(_) => {}
     }
 }
 
@@ -127,7 +132,7 @@ pub(crate) fn reading(font: &[u8], rec: Record, c: &[u8]) {
     let kind = kind_at(c);
     match kind {
         PROP => prop(props::prop_at(font, rec, number_at(c))),
-        LOOKUP => glyph(lookup::get_glyph(font, rec, code_at(c))),
+        LOOKUP => glyph(lookup::get_glyph(font, rec, mode_at(c), code_at(c))),
         NAME => named(names::get_name(font, rec, glyph_at(c))),
         METRICS => measured(metrics::get_metrics(font, rec, glyph_at(c))),
         DIMENSIONS => sized(place::dimensions(font, rec)),

@@ -11,7 +11,7 @@ use tables::MetricsData;
 use tables::MetricsUnpacked;
 use tables::Record;
 
-fn flag(b: bool) -> usize {
+pub(crate) fn flag(b: bool) -> usize {
     if b { 1 } else { 0 }
 }
 

@@ -11,7 +11,9 @@ use crate::calls::PREP;
 use crate::calls::STEP;
 use crate::calls::STRICT;
 use crate::calls::code_at;
+use crate::calls::has_mode;
 use crate::calls::kind_at;
+use crate::calls::mode_at;
 use crate::calls::size_at;
 use crate::calls::text_of;
 use crate::changes::changed;
@@ -40,16 +42,24 @@ fn name(kind: u8) {
 }
 
 // Kinds that draw, then those that read, then those that put bytes into a buffer.
-fn one_call(font: &[u8], rec: Record, c: &[u8], text: &[u8]) {
+fn answer(font: &[u8], rec: Record, c: &[u8], text: &[u8]) {
     let kind = kind_at(c);
-    name(kind);
     match kind {
-        PREP => prepared(place::prep_char(font, rec, code_at(c))),
+        PREP => prepared(place::prep_char(font, rec, mode_at(c), code_at(c))),
         STEP => stepped(utf8::step_at(text, size_at(c, 40))),
         LOAD..=STRICT => reading(font, rec, c),
         CHECK => checked(utf8::check(text)),
         FRAME..=255 => putting(font, rec, c, text),
         _ => drawing(font, rec, c, text),
+    }
+}
+
+fn one_call(font: &[u8], rec: Record, c: &[u8], text: &[u8]) {
+    name(kind_at(c));
+    if has_mode(c) {
+        answer(font, rec, c, text);
+    } else {
+        say(b"no such mode");
     }
     say(b"\n");
 }
