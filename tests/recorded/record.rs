@@ -234,7 +234,7 @@ fn of_font(font: &LoadedPCF, data: &[u8], c: &[u8], lent: &[u8]) -> String {
             let from = length_at(c, 4);
             let bytes = &lent[from..from + info.height];
             let text = std::str::from_utf8(bytes).expect("a call with a text that is not UTF-8");
-            let wrap = (c[1] != 0).then_some(info.width);
+            let wrap = (c[2] != 0).then_some(info.width);
             Some(numbers(&[font.draw_string(text, buffer, start, wrap, stride, scale, colour)]))
         }),
         _ => panic!("a call of kind {}", c[0]),

@@ -1,7 +1,8 @@
 """A call of the program crates/replay: a dictionary of its arguments; those that a call does not take are left
-out. "rec" has what is changed in the record that loading gives, as {"bitmaps.pad": 3}. A file has one font
-after the other: how many bytes it has, how many bytes of texts follow it, how many calls of 64 bytes there are, the
-font, the texts, the calls; crates/replay/src/calls.rt says where in a call each argument stands."""
+out. "rec" has what is changed in the record that loading gives, as {"bitmaps.pad": 3}; "mode" is the mode's number, the
+plain one's where it is left out. A file has one font after the other: how many bytes it has, how many bytes of texts
+follow it, how many calls of 64 bytes there are, the font, the texts, the calls; crates/replay/src/calls.rt says where
+in a call each argument stands."""
 import model
 
 CALL = 64  # bytes of a call
@@ -10,6 +11,8 @@ DRAWING = ["draw_bitmap", "draw_glyph", "draw_char", "unpack_glyph", "prep_char"
 READING = ["load_pcf", "prop_at", "get_glyph", "get_name", "get_metrics", "dimensions", "accelerators", "name_bytes",
            "all_codes", "load_strict"]
 PUTTING = ["check", "put_frame", "put_refused", "fill_bytes"]
+IN_A_MODE = ["get_glyph", "prep_char", "draw_glyph", "draw_char", "unpack_glyph", "draw_string"]
+PLAIN, DEFAULT = 0, 1  # the numbers of the modes
 KINDS = ["change", *DRAWING, *READING, *PUTTING]
 # the record's fields as crates/replay/src/changes.rt numbers them
 FIELDS = """props.records props.strings props.size metrics.records bitmaps.offsets bitmaps.bits bitmaps.size
@@ -88,6 +91,11 @@ def but(call, **arguments):
         else:
             made[name] = value
     return made
+
+
+def in_default_mode(calls):
+    """those of the calls that take a mode"""
+    return [dict(call, mode=DEFAULT) for call in calls if call["call"] in IN_A_MODE]
 
 
 def each(info, code, length, stride):
@@ -190,8 +198,9 @@ def encoded(call, k, b):
     info = call.get("info") or box(call.get("g", 0), call.get("width", 0), call.get("height", 0))
     code, wraps = call.get("code", 0), call.get("wrap") is not None
     if "text" in call:
-        code, info = b.index(call["text"]), box(0, call["wrap"] if wraps else 0, len(call["text"]))
-    made = bytes([KINDS.index(call["call"]), wraps]) + low_bytes(info["glyph"], 2) + low_bytes(code, 4)
+        code, info = b.index(call["text"]), box(wraps, call["wrap"] if wraps else 0, len(call["text"]))
+    made = bytes([KINDS.index(call["call"]), call.get("mode", PLAIN)]) + low_bytes(info["glyph"], 2)
+    made += low_bytes(code, 4)
     made += low_bytes(info["width"], 8) + low_bytes(info["height"], 8)
     made += low_bytes(info["pad_top"], 2) + low_bytes(info["pad_left"], 2) + low_bytes(colour(call, k), 4)
     made += b"".join(low_bytes(call.get(name, 0), 8) for name in ("len", "start", "stride", "scale"))

@@ -14,7 +14,7 @@ import model  # noqa: E402
 import stored  # noqa: E402
 from common import fail  # noqa: E402
 from pcf.orders import ORDERS  # noqa: E402
-from replay import calls, make  # noqa: E402
+from replay import beside_plain, calls, make  # noqa: E402
 
 # every number that each call can refuse with; the recorded ones are left out, and do not stand in for the others
 DRAWING = {
@@ -45,7 +45,11 @@ PUTTING = {
     "put_refused": [15],
     "fill_bytes": [15, 20],
 }
+IN_DEFAULT_MODE = {call: {**DRAWING, **READING}[call] for call in calls.IN_A_MODE}
+# of a code that has no glyph where the default has one
+OF_DEFAULT = {"get_glyph": [], "prep_char": [10, 11], "draw_char": [10, 11, 13, 14, 15, 16]}
 WITHOUT_GLYPH = (31, 32, 33, 34)  # the reasons for what drawing refuses with 9
+NO_SUCH_MODE = "no such mode"
 
 
 # ---- what the model answers
@@ -63,24 +67,32 @@ def row_words(drawn, dropped):
     return "drawn %d, dropped %d" % (drawn, dropped)
 
 
+def supplier_words(code, is_default):
+    return ", code %d, default %d" % (code, is_default)
+
+
+def mode_of(c):
+    return model.mode_of(c.get("mode", calls.PLAIN))
+
+
 def asked(b, rec, c):
     """the answer in words, and the pixels to colour"""
-    call = c["call"]
+    call, mode = c["call"], mode_of(c)
     place = [c.get(name) for name in ("len", "start", "stride", "scale")]
     if call == "draw_bitmap":
         rows, pixels = model.bitmap_check(b, rec, c["g"], c["width"], c["height"], *place)
         return row_words(*rows), pixels
     if call == "draw_glyph":
-        rows, pixels = model.glyph_check(b, rec, model.PLAIN, c["info"], *place)
+        rows, pixels = model.glyph_check(b, rec, mode, c["info"], *place)
         return row_words(*rows), pixels
     if call == "draw_char":
-        (info, *rows, _, _), pixels = model.char_check(b, rec, model.PLAIN, c["code"], *place)
-        return box_words(info) + ", " + row_words(*rows), pixels
+        (info, *rows, by, is_default), pixels = model.char_check(b, rec, mode, c["code"], *place)
+        return box_words(info) + ", " + row_words(*rows) + supplier_words(by, is_default), pixels
     if call == "unpack_glyph":
-        rows, pixels = model.unpack_check(b, rec, model.PLAIN, c["info"], *place[:3])
+        rows, pixels = model.unpack_check(b, rec, mode, c["info"], *place[:3])
         return "rows %d" % rows, pixels
     if call == "draw_string":
-        extent, pixels = model.text_check(b, rec, model.PLAIN, c["text"], *place[:2], c["wrap"], *place[2:])
+        extent, pixels = model.text_check(b, rec, mode, c["text"], *place[:2], c["wrap"], *place[2:])
         return "height %d, dropped %d" % extent, pixels
     # show_glyph: as draw_glyph of a record that passes its test, but asks no limit
     seen = model.glyph_picture(b, rec, c["info"], *place)
@@ -96,16 +108,16 @@ def place_of(c):
 def reason(b, rec, c):
     """of a character: the number of the reason, or of the refusal to tell one; rows cut; both in words"""
     try:
-        number, cut, _, _ = model.why(b, rec, model.PLAIN, c["code"], *place_of(c))
+        number, cut, by, is_default = model.why(b, rec, mode_of(c), c["code"], *place_of(c))
     except model.Refused as r:
         return r.number, 0, str(r)
-    return number, cut, "%d, cut %d" % (number, cut)
+    return number, cut, "%d, cut %d" % (number, cut) + supplier_words(by, is_default)
 
 
 def left_by_drawing(b, rec, c):
     """the reasons that are left by what draw_char answers to the same call, and how many rows are cut"""
     try:
-        (info, _, dropped, _, _), pixels = model.char_check(b, rec, model.PLAIN, c["code"], *place_of(c))
+        (info, _, dropped, _, _), pixels = model.char_check(b, rec, mode_of(c), c["code"], *place_of(c))
     except model.Refused as r:
         return WITHOUT_GLYPH if r.number == 9 else (r.number,), 0
     if info["glyph"] >= rec["bitmaps"]["count"]:
@@ -136,7 +148,7 @@ def read_numbers(b, rec, c):
     if call == "prop_at":
         return model.prop_at(b, rec, c["code"])
     if call == "get_glyph":
-        return [model.get_glyph(b, rec, model.PLAIN, c["code"])[0]]
+        return map(int, model.get_glyph(b, rec, mode_of(c), c["code"]))
     if call == "get_name":
         return model.get_name(b, rec, c["g"])
     if call == "get_metrics":
@@ -149,7 +161,8 @@ def read_numbers(b, rec, c):
 def found(b, rec, c):
     """the answer in words of a call that draws nothing"""
     if c["call"] == "prep_char":
-        return box_words(model.prep_char(b, rec, model.PLAIN, c["code"])[0])
+        info, by, is_default = model.prep_char(b, rec, mode_of(c), c["code"])
+        return box_words(info) + supplier_words(by, is_default)
     if c["call"] == "step_at":
         step = model.utf8_step(c["text"], c["start"])
         return "end" if step is None else "code %d, next %d" % step
@@ -187,6 +200,8 @@ def put_words(b, rec, c):
 
 def line(b, rec, c, colour):
     """what is written of a call, and the number that it is refused with or 0"""
+    if not model.is_known(c.get("mode", calls.PLAIN)):
+        return "%-12s %s" % (c["call"], NO_SUCH_MODE), NO_SUCH_MODE
     if c["call"] in PUTTING and "len" in c:
         words, number = put_words(b, rec, c)
         return "%-12s %s" % (c["call"], words), number
@@ -213,7 +228,18 @@ def why_words(b, rec, c, seen):
     if number not in left or cut != dropped:
         fail("the model's reason is %s, its drawing leaves %s with %d rows cut: %s" % (words, left, dropped, c))
     seen["why", number] += 1
+    if words.endswith(" 1"):
+        seen["why by default", number] += 1
     return words
+
+
+def call_line(b, rec, c, colour, seen):
+    """what is written of a call; counts what it answers"""
+    text, number = line(b, rec, c, colour)
+    seen[c["call"], number] += 1
+    if c["call"] == "draw_char" and number != NO_SUCH_MODE:
+        text += "; why " + why_words(b, rec, c, seen)
+    return text
 
 
 def lines(b, of_font, seen):
@@ -228,11 +254,7 @@ def lines(b, of_font, seen):
         loaded, of_font = None, [c for c in of_font[:1] if c["call"] == "load_strict"]
     for k, c in enumerate(of_font):
         rec = model.changed(loaded, c.get("rec", {}))
-        text, number = line(b, rec, c, calls.colour(c, k))
-        seen[c["call"], number] += 1
-        if c["call"] == "draw_char":
-            text += "; why " + why_words(b, rec, c, seen)
-        yield text
+        yield call_line(b, rec, c, calls.colour(c, k), seen)
 
 
 def output(inputs, seen):
@@ -253,6 +275,24 @@ def one_picture(inputs):
     return len(fonts)
 
 
+def hold_to_plain(inputs, seen):
+    """how many calls in default mode answer what another call, or the same, answers in plain mode; counts those on a
+    code that takes the default's glyph"""
+    held, unused = 0, collections.Counter()
+    for b, c in ((b, c) for sections in inputs.values() for b, of_font in sections for c in of_font):
+        rec = model.changed(model.load(b), c.get("rec", {}))
+        plain = beside_plain.plain_call(b, rec, c)
+        if plain is None:
+            continue
+        lines_of_both = [call_line(b, rec, each, 1, unused) for each in (c, plain)]
+        if len({*map(beside_plain.unplaced, lines_of_both)}) != 1:
+            fail("not as in plain mode: %s\n  %s\n  %s" % (c, *lines_of_both))
+        held += 1
+        if plain.get("code") != c.get("code"):
+            seen[c["call"], line(b, rec, c, 1)[1]] += 1
+    return held
+
+
 def check_refusals(seen, refused):
     for call, numbers in refused.items():
         shown = sorted({number for (of, number) in seen if of == call})
@@ -260,6 +300,14 @@ def check_refusals(seen, refused):
             fail("%s answers %s" % (call, shown))
         print("%s: %d answers, refused %s" % (
             call, seen[call, 0], ", ".join("%d: %d" % (number, seen[call, number]) for number in numbers) or "never"))
+
+
+def check_default_reasons(seen):
+    """of the default's glyph there is every reason but the first four"""
+    told = {number: count for (call, number), count in seen.items() if call == "why by default"}
+    if sorted(told) != sorted({*model.REASONS} - {*WITHOUT_GLYPH}):
+        fail("the reasons of the default's glyph are %s" % told)
+    print("why, of the default's glyph: %s" % ", ".join("%d: %d" % each for each in sorted(told.items())))
 
 
 def check_reasons(seen):
@@ -277,7 +325,8 @@ def counted(seen, kinds):
 
 
 def main():
-    groups = drawn, read, put_in, recorded = make.drawn(), make.read(), make.put(), make.recorded()
+    groups = drawn, read, put_in, defaults, unknown, recorded = (
+        make.drawn(), make.read(), make.put(), make.by_default(), make.in_no_mode(), make.recorded())
     seen = [collections.Counter() for _ in groups]
     want = {("replay", "args"): "".join(name + "\n" for group in groups for name in group).encode(),
             ("replay", "stdout"): b"".join(map(output, groups, seen))}
@@ -285,6 +334,14 @@ def main():
     check_refusals(seen[1], READING)
     check_refusals(seen[2], PUTTING)
     check_reasons(seen[0])
+    print("in default mode:")
+    check_refusals(seen[3], IN_DEFAULT_MODE)
+    check_reasons(seen[3])
+    check_default_reasons(seen[3])
+    of_default = collections.Counter()
+    held = hold_to_plain(defaults, of_default)
+    print("of codes that take the default's glyph:")
+    check_refusals(of_default, OF_DEFAULT)
     write, files = sys.argv[1:] == ["--write"], make.files()
     if write:
         stored.store_data("replay", files)
@@ -294,8 +351,12 @@ def main():
           "recorded ones in %d are as made, and the output agrees with the model; the reasons of %d characters are "
           "such as drawing's answer leaves; one font in %d orders has one answer to each call" % (
               counted(seen[0], DRAWING), len(drawn), counted(seen[1], READING), len(read),
-              counted(seen[2], PUTTING), len(put_in), counted(seen[3], {**DRAWING, **READING}), len(recorded),
-              counted(seen[0], ["why"]) + counted(seen[3], ["why"]), one_picture(drawn)))
+              counted(seen[2], PUTTING), len(put_in), counted(seen[5], {**DRAWING, **READING}), len(recorded),
+              counted(seen[0], ["why"]) + counted(seen[5], ["why"]), one_picture(drawn)))
+    print("replay: %d calls in default mode in %d files agree with the model, %d of them with one in plain mode too, "
+          "and so do the reasons of %d characters with drawing's answer; %d calls in modes that there are none of are "
+          "not made" % (counted(seen[3], calls.IN_A_MODE), len(defaults), held, counted(seen[3], ["why"]),
+                        counted(seen[4], calls.IN_A_MODE)))
 
 
 if __name__ == "__main__":

@@ -9,8 +9,8 @@ from pcf.font_f import two_digits
 from pcf.numbers import BIG
 from pcf.tables import row_bytes
 from replay.boxes import large, mixed, shapes, widths
-from replay.calls import (DRAWING, LAST, MOST, bitmap, box, but, char, damages, each, fitting, glyph, prep, show,
-                          unpack)
+from replay.calls import (DRAWING, LAST, MOST, PLAIN, bitmap, box, but, char, damages, each, fitting, glyph, prep,
+                          show, unpack)
 
 CASES = os.path.join(os.path.dirname(os.path.dirname(os.path.abspath(__file__))), "definitions")
 
@@ -276,15 +276,22 @@ def drawn_by_lot(seed, b, count):
         yield but(call, len=min(MOST, max(0, length)))
 
 
-def of_definitions(kinds):
-    """the cases beside the model that make these calls, a font after the other"""
+def cases_of_fonts(kinds, mode):
+    """the cases beside the model that make these calls in this mode, a font after the other"""
     with open(os.path.join(CASES, "fonts.txt"), encoding="ascii") as f:
         listed = [bytes.fromhex(line.strip()) for line in f]
     with open(os.path.join(CASES, "cases.jsonl"), encoding="ascii") as f:
         cases = [json.loads(line) for line in f]
     for number, b in enumerate(listed):
         # a record of another font is no record that this one's loading gives
-        calls = [c for c in cases if c["call"] in kinds and "text" not in c and c["font"] == number and "of" not in c]
+        yield b, [c for c in cases if c["call"] in kinds and c.get("font") == number and "of" not in c
+                  and c.get("mode", PLAIN) == mode]
+
+
+def of_definitions(kinds, mode=PLAIN):
+    """those that have no text"""
+    for b, cases in cases_of_fonts(kinds, mode):
+        calls = [c for c in cases if "text" not in c]
         if calls:
             yield b, calls
 

@@ -1,7 +1,7 @@
 """The files of crates/replay/data: fonts, and calls on each."""
 from fonts import questions as reading
 from recorded import questions as recorded_ones
-from replay import glyphs, lines, orders, reasons, texts
+from replay import defaults, glyphs, lines, orders, reasons, texts
 from replay.calls import content
 
 
@@ -22,10 +22,21 @@ def put():
     return named(lines.topics())
 
 
+def by_default():
+    """calls in default mode"""
+    return named(defaults.topics())
+
+
+def in_no_mode():
+    """calls that are not made, since there is no such mode"""
+    return named(defaults.without_mode())
+
+
 def recorded():
     """the calls to which the answers of 000 are kept, in tests/recorded"""
     return named(recorded_ones.topics())
 
 
 def files():
-    return {name: content(sections) for name, sections in {**drawn(), **read(), **put(), **recorded()}.items()}
+    topics = {**drawn(), **read(), **put(), **by_default(), **in_no_mode(), **recorded()}
+    return {name: content(sections) for name, sections in topics.items()}

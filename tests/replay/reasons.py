@@ -6,7 +6,7 @@ from pcf.rewriting import reordered
 from pcf.tables import PADS, codes, font, row_stride
 from replay import glyphs
 from replay.boxes import letters, mixed, of_glyphs
-from replay.calls import LAST, but, char, damages
+from replay.calls import LAST, PLAIN, but, char, damages
 from replay.orders import OTHER
 
 # of a code's first byte, and of its second one or of the whole code; some are bounds that no byte reaches
@@ -96,8 +96,8 @@ def by_lot(seed, b):
     return (call for call in glyphs.drawn_by_lot(seed, b, 200) if call["call"] == "draw_char")
 
 
-def of_definitions():
-    for b, cases in glyphs.of_definitions(["why"]):
+def of_definitions(mode=PLAIN):
+    for b, cases in glyphs.of_definitions(["why"], mode):
         yield b, [dict(case, call="draw_char") for case in cases]
 
 

@@ -8,7 +8,7 @@ import model
 from fonts import make as fonts
 from pcf.font_f import two_digits
 from replay.boxes import letters, mixed
-from replay.calls import LAST, MOST, but, damages, fitting, step, text, with_texts
+from replay.calls import LAST, MOST, PLAIN, but, damages, fitting, step, text, with_texts
 
 CASES = os.path.join(os.path.dirname(os.path.dirname(os.path.abspath(__file__))), "definitions", "cases.jsonl")
 
@@ -248,14 +248,14 @@ def steps():
 def end_of(b, call):
     """the first place behind a text in an endless buffer"""
     try:
-        _, seen = model.text_check(b, model.load(b), model.PLAIN, call["text"], 10 ** 9, call["start"], call["wrap"],
-                                   call["stride"], call["scale"])
+        _, seen = model.text_check(b, model.load(b), model.mode_of(call["mode"]), call["text"], 10 ** 9, call["start"],
+                                   call["wrap"], call["stride"], call["scale"])
     except model.Refused:
         seen = []
     return max(seen, default=call["start"] + 2 * call["stride"]) + 1
 
 
-def drawn_by_lot(seed, b, count, alphabet):
+def drawn_by_lot(seed, b, count, alphabet, mode=PLAIN):
     """texts of up to nine characters; buffers that end around the last pixel or around a line"""
     rng = random.Random(seed)
     others = [b"\n", b"\n", b"\r\n", b"\r", b"~", b" ", "\xe9".encode(), "\u20ac".encode(), "\U00010041".encode()]
@@ -267,7 +267,7 @@ def drawn_by_lot(seed, b, count, alphabet):
         scale = rng.choice((1, 1, 1, 1, 2, 2, 3, 4))
         stride = rng.choice((1, 2, 3, 5, 8 * scale, 17, 9 * scale + 3, 24))
         wrap = rng.choice((None, None, rng.randrange(12) * scale, rng.randrange(30), 17 * scale))
-        call = text(content, 0, stride, scale, rng.randrange(6), wrap)
+        call = dict(text(content, 0, stride, scale, rng.randrange(6), wrap), mode=mode)
         end = end_of(b, call)
         if rng.randrange(3):
             length = end + rng.choice((-2, -1, 0, 0, 1, stride, stride * scale))
@@ -299,11 +299,11 @@ def long():
 
 
 def of_definitions():
-    """the cases beside the model that are about F, or about no font"""
+    """the cases beside the model that are plain and about F, or about no font"""
     with open(CASES, encoding="ascii") as f:
         cases = [json.loads(line) for line in f]
     for case in cases:
-        if "more" in case:
+        if "more" in case or case.get("mode", PLAIN) != PLAIN:
             continue
         if case["call"] == "draw_string" and case["font"] == 0:
             yield dict(case, text=case["text"].encode("latin-1"))
