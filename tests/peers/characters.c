@@ -97,12 +97,14 @@ static bool same_bitmap(const struct font *f, struct page ours, size_t left, siz
     return right;
 }
 
-static struct page drawn_char(const struct font *f, uint32_t code, size_t lines, size_t stride)
+static struct page drawn_char(const struct font *f, uint32_t code, thk_mode mode, size_t lines, size_t stride)
 {
     struct page p = blank(lines, stride);
     thk_page to = drawable(p);
-    thk_char_answer ours = thk_draw_char(FONT(f), (thk_char_code){code}, &to);
+    thk_char_answer ours;
 
+    to.mode = mode;
+    ours = thk_draw_char(FONT(f), (thk_char_code){code}, &to);
     same(f, ours.refusal, bit_order(f), "refusal of drawing code %ld", (long)code);
     if (!ours.refusal)
         same(f, ours.rows.drawn, f->face->glyph->bitmap.rows, "rows drawn of code %ld", (long)code);
@@ -128,6 +130,15 @@ static struct page unpacked(const struct font *f, uint32_t code, thk_glyph_info 
         p.pixels[i] = bytes[i];
     free(bytes);
     return p;
+}
+
+bool drawn_as(const struct font *f, uint32_t code, thk_mode mode, thk_glyph_info info)
+{
+    size_t lines = info.pad_top + info.height + 1U, stride = info.pad_left + info.width + 1U;
+
+    return loaded(f, shown_index(f, code, mode))
+           && same_bitmap(f, drawn_char(f, code, mode, lines, stride), info.pad_left, info.pad_top, info.width, "code",
+                          code);
 }
 
 bool character(struct font *f, uint32_t code)
@@ -167,7 +178,7 @@ bool character(struct font *f, uint32_t code)
     whole = (info.width + 7U) / 8 * 8; /* the columns that unpacking stores */
     lines = top + info.height + 1;
     stride = left + larger(whole, box) + 1;
-    right = same_bitmap(f, drawn_char(f, code, lines, stride), left, top, info.width, "code", code);
+    right = same_bitmap(f, drawn_char(f, code, THK_PLAIN, lines, stride), left, top, info.width, "code", code);
     right &= same_bitmap(f, unpacked(f, code, info, lines, stride), left, top, whole, "unpacked code", code);
     if (bit_order(f))
         return false;

@@ -1,7 +1,7 @@
 /* Reads fonts with FreeType and with the library, and compares all that both answer: properties, accelerators, the
- * glyph of every code, metrics, bitmaps, characters and texts drawn, why each code is drawn or not, vetting. FreeType
- * does not read the names of glyphs; those that are given with a font are compared. A font that both read has to load
- * strictly too, and not with a bit of a table's own format changed.
+ * glyph of every code in both modes, metrics, bitmaps, characters and texts drawn, why each code is drawn or not,
+ * vetting. FreeType does not read the names of glyphs; those that are given with a font are compared. A font that both
+ * read has to load strictly too, and not with a bit of a table's own format changed.
  *
  * Standard input has for each font three lengths, eight bytes each as the machine has them, then the font's name, its
  * bytes, and lines of a code and its glyph's name. Standard output has the first differences, for each vetted font a
@@ -25,9 +25,24 @@ void fail(const char *what)
     exit(2);
 }
 
-static bool in_texts(uint32_t code)
+FT_UInt shown_index(const struct font *f, uint32_t code, thk_mode mode)
+{
+    FT_UInt own = FT_Get_Char_Index(f->face, code);
+
+    return own || mode == THK_PLAIN ? own : FT_Get_Char_Index(f->face, code_table(f).default_code);
+}
+
+bool in_texts(uint32_t code)
 {
     return code != '\n' && code != '\r' && !(0xD800 <= code && code < 0xE000);
+}
+
+/* A code whose glyph may stand in a text. */
+static void stands(struct font *f, uint32_t code)
+{
+    f->default_stands |= code == f->rec.codes.default_code;
+    f->letter = code;
+    f->letter_stands = true;
 }
 
 static void codes(struct font *f)
@@ -49,22 +64,24 @@ static void codes(struct font *f)
         if (!same(f, ours.glyph.value + 1LL, peers, "index of code %ld", (long)code))
             continue;
         count.with_glyph++;
-        if (character(f, code) && hold && in_texts(code))
+        if (character(f, code) && hold && in_texts(code)) {
+            stands(f, code);
             line[n++] = code;
+        }
         if (n == LETTERS) {
-            text(f, line, n);
+            text(f, line, n, THK_PLAIN);
             n = 0;
         }
     }
     if (n > 0)
-        text(f, line, n);
+        text(f, line, n, THK_PLAIN);
 }
 
 static void font(FT_Library library, const char *name, uint8_t *bytes, size_t len, char *lines)
 {
     thk_font_answer ours = thk_load(bytes, len);
     struct font f = {name, bytes, len, ours.rec, NULL, THK_DONE, 0, {LONG_MAX, LONG_MAX, LONG_MAX, LONG_MAX, LONG_MAX},
-                     {LONG_MIN, LONG_MIN, LONG_MIN, LONG_MIN, LONG_MIN}, DIGEST};
+                     {LONG_MIN, LONG_MIN, LONG_MIN, LONG_MIN, LONG_MIN}, DIGEST, false, false, 0};
     uint32_t k;
     FT_Error error = FT_New_Memory_Face(library, bytes, (FT_Long)len, 0, &f.face);
 
@@ -91,6 +108,7 @@ static void font(FT_Library library, const char *name, uint8_t *bytes, size_t le
         glyph(&f, copied(&f), 0);
         codes(&f);
         reasons(&f);
+        defaults(&f);
         bounds(&f);
         vetting(&f);
         dump(&f);

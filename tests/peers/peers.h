@@ -14,6 +14,7 @@
 enum {
     CODES = 65536,
     BEYOND = 1024,    /* codes after those, which have no glyph */
+    NO_GLYPH = 65535, /* an entry of the code table */
     HIGHEST = 32767,  /* of a glyph */
     LETTERS = 40,     /* of a text at most */
     SHOWN = 5,        /* differences in full */
@@ -36,6 +37,9 @@ struct font {
     struct extremes least; /* of FreeType's metrics of all codes' glyphs */
     struct extremes most;
     uint64_t peers;        /* a digest of FreeType's bitmaps */
+    bool default_stands;   /* the default code's glyph may stand in a text */
+    bool letter_stands;    /* and so may that of `letter`, the last such code */
+    uint32_t letter;
 };
 
 #define FONT(f) (f)->bytes, (f)->len, &(f)->rec
@@ -45,7 +49,9 @@ struct font {
     C(refused_11) C(refused_13) C(refused_14) C(numbers) C(strings) C(repeated) C(with_glyph) C(without_glyph)         \
     C(metrics) C(bitmaps) C(empty) C(not_drawn) C(defaults) C(no_default) C(characters) C(cut) C(wider)                \
     C(out_of_range) C(other_rows) C(texts) C(letters) C(names) C(differences) C(why_of_other_rows)          \
-    C(short_16) C(short_35) C(short_36) C(short_37) C(fewer_10) C(fewer_12)
+    C(short_16) C(short_35) C(short_36) C(short_37) C(fewer_10) C(fewer_12) C(fonts_with_default)                      \
+    C(fonts_without_default) C(default_own) C(default_taken) C(default_none) C(default_placed) C(default_drawn)        \
+    C(default_texts) C(default_letters)
 
 /* The reasons that a code can have on a page with room for it, in a font that FreeType reads. */
 #define REASONS(C) C(31) C(32) C(33) C(34) C(11) C(13) C(14) C(36) C(37)
@@ -58,6 +64,12 @@ extern struct counts {
 } count;
 
 void fail(const char *what);
+
+/* FreeType's index of the glyph that a code is shown by, or 0. */
+FT_UInt shown_index(const struct font *f, uint32_t code, thk_mode mode);
+
+/* Whether the code is a character, and none at which a text breaks. */
+bool in_texts(uint32_t code);
 
 /* ---- pages.c */
 
@@ -117,6 +129,24 @@ void strict_loading(const struct font *f);
 /* Counts the known tables over which the font is refused if one bit of the table's own format is changed. */
 void two_formats(const struct font *f);
 
+/* ---- codes.c */
+
+/* Bounds of the codes' second and first byte, the default code and the entries. */
+struct code_table {
+    uint32_t low2, high2, low1, high1, default_code; /* as they follow each other in the table */
+    const uint8_t *entries;
+    bool big;
+};
+
+/* The last one of a font, which serves. */
+struct code_table code_table(const struct font *f);
+
+/* The reason why a code has no entry, or 0 where it has one. */
+uint32_t outside(const struct code_table *t, uint32_t code);
+
+/* The glyph of a code's own, or NO_GLYPH. */
+uint32_t entry_of(const struct code_table *t, uint32_t code);
+
 /* ---- glyphs.c */
 
 /* The glyph in FreeType, under this index. */
@@ -147,10 +177,18 @@ uint32_t fault(const struct font *f, FT_GlyphSlot slot, size_t glyph);
  * Whether it may stand in a text: is drawn, and as wide as its box. */
 bool character(struct font *f, uint32_t code);
 
+/* Whether a character that may stand in a text is drawn as FreeType's glyph of this place. */
+bool drawn_as(const struct font *f, uint32_t code, thk_mode mode, thk_glyph_info info);
+
 /* ---- reasons.c */
 
 /* Counts why each code is drawn or not. */
 void reasons(const struct font *f);
+
+/* ---- defaults.c */
+
+/* Every code's glyph in default mode; characters and texts of codes that have none of their own. */
+void defaults(const struct font *f);
 
 /* ---- dumps.c */
 
@@ -160,7 +198,7 @@ void dump(const struct font *f);
 /* ---- texts.c */
 
 /* The codes as one line, their bitmaps laid side by side by FreeType's advances. Each is as wide as its box and has a
- * left bearing of at least 0, so that the bitmaps end before their pens' sum. */
-void text(const struct font *f, const uint32_t *codes, size_t n);
+ * left bearing of at least 0, so that the bitmaps end before their pens' sum. A code without a glyph is skipped. */
+void text(const struct font *f, const uint32_t *codes, size_t n, thk_mode mode);
 
 #endif

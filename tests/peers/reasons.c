@@ -3,45 +3,12 @@
  * page that ends somewhere about the glyph, and with a record that counts the glyph no more. */
 #include "peers.h"
 
-enum { CODE_TABLE = 32, BIG = 4 }; /* the table's type, and the bit of its own format */
-
-struct code_bounds {
-    uint32_t low2, high2, low1, high1; /* as they follow each other in the table */
-};
-
-static uint32_t half(const uint8_t *at, bool big)
-{
-    return (uint32_t)at[big ? 0 : 1] << 8 | at[big ? 1 : 0];
-}
-
-/* Those of the last code table, which serves. */
-static struct code_bounds code_bounds(const struct font *f)
-{
-    uint32_t entry = word(f->bytes + 4);
-
-    while (entry-- > 0) {
-        const uint8_t *listed = f->bytes + 8 + 16 * entry, *table = f->bytes + word(listed + 12);
-        bool big = word(table) & BIG;
-
-        if (word(listed) == CODE_TABLE)
-            return (struct code_bounds){half(table + 4, big), half(table + 6, big), half(table + 8, big),
-                                        half(table + 10, big)};
-    }
-    fail("a font has no code table");
-    return (struct code_bounds){0, 0, 0, 0};
-}
-
 /* The reason of a code that has no glyph. */
-static uint32_t without_glyph(struct code_bounds b, uint32_t code)
+static uint32_t without_glyph(const struct code_table *t, uint32_t code)
 {
-    bool whole = b.low1 == 0 && b.high1 == 0; /* the second byte's bounds are the code's */
-    uint32_t byte1 = code >> 8, byte2 = whole ? code : code & 255;
+    uint32_t reason = outside(t, code);
 
-    if (code >= CODES)
-        return THK_WHY_ABOVE_CODES;
-    if (!whole && (byte1 < b.low1 || byte1 > b.high1))
-        return THK_WHY_FIRST_BYTE;
-    return byte2 < b.low2 || byte2 > b.high2 ? THK_WHY_SECOND_BYTE : THK_WHY_EMPTY_ENTRY;
+    return reason ? reason : THK_WHY_EMPTY_ENTRY;
 }
 
 /* The reason of a code that has one; 0 where it is THK_WHY_BLANK or THK_WHY_DRAWN and FreeType has no bitmap of the
@@ -136,14 +103,14 @@ static void counted(uint32_t reason)
 void reasons(const struct font *f)
 {
     thk_page endless = thk_page_of(NULL, UINT64_MAX, THK_MAX_STRIDE);
-    struct code_bounds b = code_bounds(f);
+    struct code_table t = code_table(f);
     uint32_t code;
 
     for (code = 0; code < CODES + BEYOND; code++) {
         thk_why_answer ours = thk_why(FONT(f), (thk_char_code){code}, &endless);
         FT_UInt index = FT_Get_Char_Index(f->face, code);
         FT_GlyphSlot slot = index ? loaded(f, index) : NULL;
-        uint32_t reason = slot ? with_glyph(f, slot, index - 1) : without_glyph(b, code);
+        uint32_t reason = slot ? with_glyph(f, slot, index - 1) : without_glyph(&t, code);
 
         same(f, thk_glyph(FONT(f), (thk_char_code){code}, THK_PLAIN).refusal != THK_DONE, slot == NULL,
              "whether code %ld has no frame", (long)code);

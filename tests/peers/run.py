@@ -5,7 +5,10 @@ that pcf2bdf writes. Each of these fonts, and of those that follow, has to load 
 with, and to be refused 27 for each known table, if a bit of that table's own format is changed. And each code has to
 have the reason that is left by the bounds in the file's code table and by FreeType, which tells whether there is a
 glyph, its metrics and its bitmap (reasons.c): on a page without end, and each that has a bitmap on a page that ends
-about its glyph too, and with records that count the glyph no more.
+about its glyph too, and with records that count the glyph no more. In default mode each code has to have the glyph of
+its own entry or of the default code's, by the file's table, which is read a second time, and by FreeType's index of
+either code, with the code that supplied it (defaults.c); one in 61 of the codes without a glyph is also placed, drawn,
+told why, and drawn in texts between letters that have one.
 
 All those fonts have one format. So bdftopcf writes each a second time, by turns in every format that it can: row pad,
 bit order, byte order and scan unit; the tests' own writer then pads some rows to 8 bytes. One in four has a last glyph
@@ -251,6 +254,10 @@ ones, {why_34} empty entries; 11 {why_11}, 13 {why_13}, 14 {why_14}; {why_36} bl
     reasons of the others on a page that ends about the glyph: 16 {short_16}, rows cut {short_35}, {short_36} blank, \
 {short_37} drawn; with records that count it no more 10 {fewer_10}, 12 {fewer_12}
     texts: {texts} with {letters} letters
+    default mode: the default code has a glyph in {fonts_with_default} fonts and none in {fonts_without_default}; \
+{default_own} codes have a glyph of their own, {default_taken} take the default's, {default_none} have none
+    characters that take it: {default_placed} placed, {default_drawn} of them drawn; texts with codes that have no \
+glyph: {default_texts} with {default_letters} letters
     names: {names}
     differences: {differences}"""
 
@@ -270,11 +277,20 @@ def checked_reasons(what, count):
             what, count["why_of_other_rows"], count["with_glyph"]))
 
 
+def checked_defaults(what, count):
+    """every code of every font is looked up in default mode, and has its own glyph there as in plain mode"""
+    looked_up = count["default_own"] + count["default_taken"] + count["default_none"]
+    if count["default_own"] != count["with_glyph"] or looked_up != CODES * count["fonts"]:
+        fail("%s: not every code is looked up in default mode, %s" % (what, count))
+    if count["fonts_with_default"] + count["fonts_without_default"] != count["fonts"]:
+        fail("%s: not every font is looked up in default mode, %s" % (what, count))
+
+
 def report(what, count, given, *more):
     """what was counted of so many fonts given; some of `more` has to be there too"""
     for name in ("fonts", "bounds", "vetted", "numbers", "strings", "with_glyph", "bitmaps", "characters", "texts",
                  "why_31", "why_33", "why_34", "why_36", "why_37", "short_16", "short_35", "short_36", "short_37",
-                 *more):
+                 "fonts_with_default", "default_taken", "default_placed", "default_drawn", "default_texts", *more):
         if count[name] == 0:
             fail("%s: nothing was compared, %s" % (what, count))
     if count["strictly"] != given:
@@ -282,6 +298,7 @@ def report(what, count, given, *more):
     if count["two_formats"] < KINDS * given:
         fail("%s: a bit was changed in %d tables of %d fonts" % (what, count["two_formats"], given))
     checked_reasons(what, count)
+    checked_defaults(what, count)
     print(REPORT.format(what=what, **count))
 
 
@@ -339,7 +356,7 @@ def main():
         if lacks:
             print("peers: without %s, not to be had here" % ", ".join(lacks))
         packages = ", ".join(package for package in FONTS if package not in lacks)
-        more = () if set(FONTS) & set(lacks) else ("why_11", "why_32")
+        more = () if set(FONTS) & set(lacks) else ("why_11", "why_32", "fonts_without_default", "default_none")
         report("fonts of " + packages, compared(program, folder, as_is(paths, folder, lacks))[0], len(paths), *more)
         if not {"pcf2bdf", "xfonts-utils"} & set(lacks):
             count, _ = compared(program, folder, rewritten(paths, folder))
