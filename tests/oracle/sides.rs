@@ -1,7 +1,7 @@
 //! The two sides, asked the same: 000, whose panics are caught, and the port.
 use crate::asked::{Call, Function::*};
 use crate::calls;
-use crate::structs::{Bitmap, CharCode, GlyphIndex, GlyphInfo, Metrics, PageNumbers, Record, PLAIN};
+use crate::structs::{Bitmap, CharCode, GlyphIndex, GlyphInfo, Metrics, PageNumbers, Record, Supplier, PLAIN};
 use original::plain::{self, Fields};
 use original::LoadedPCF;
 use std::panic::{catch_unwind, AssertUnwindSafe};
@@ -250,6 +250,12 @@ pub fn numbers(call: &Call) -> PageNumbers {
     PageNumbers { start, stride, scale, wrap: call.wrap.unwrap_or(u64::MAX), colour: COLOUR, mode: PLAIN }
 }
 
+/// 000 knows no default code: in plain mode each code that has a glyph supplies it itself, and on a refusal all is 0
+fn supplied(refusal: u32, by: Supplier, code: CharCode) {
+    let itself = if refusal == 0 { code.0 } else { 0 };
+    assert!(by.code.0 == itself && !by.is_default, "code {} has the glyph of code {}", code.0, by.code.0);
+}
+
 pub fn our(bytes: &[u8], rec: Record, call: &Call) -> Our {
     let (code, glyph) = (CharCode(call.number), GlyphIndex(call.number as u16));
     let info = GlyphInfo {
@@ -270,6 +276,7 @@ pub fn our(bytes: &[u8], rec: Record, call: &Call) -> Our {
         }
         Glyph => {
             let a = calls::glyph(bytes, rec, code, PLAIN);
+            supplied(a.refusal, a.by, code);
             (a.refusal, a.place, first(&[a.glyph.0.into()]), [0, 0])
         }
         Name => {
@@ -286,6 +293,7 @@ pub fn our(bytes: &[u8], rec: Record, call: &Call) -> Our {
         }
         PrepChar => {
             let a = calls::prep_char(bytes, rec, code, PLAIN);
+            supplied(a.refusal, a.by, code);
             (a.refusal, a.place, of_info(&a.info), [0, 0])
         }
         DrawBitmap => {
@@ -299,6 +307,7 @@ pub fn our(bytes: &[u8], rec: Record, call: &Call) -> Our {
         }
         DrawChar => {
             let a = calls::draw_char(bytes, rec, code, &mut page, numbers(call));
+            supplied(a.refusal, a.by, code);
             (a.refusal, a.place, of_info(&a.info), [a.rows.drawn.into(), a.rows.dropped.into()])
         }
         UnpackGlyph => {
