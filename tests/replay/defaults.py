@@ -160,9 +160,12 @@ def as_they_are(b):
 
 
 def metered():
+    """the meter's texts, with the default that its font has, and with one that has no glyph"""
     for content in ("21.5 \xb0C", "\u20ac 3,50", "a\u2009b\U0001f600c", "kWh\r\n\u2192\n\u2190", "?\xb6?"):
         for scale, wrap in ((1, None), (1, 30), (2, 40)):
-            yield text(content.encode(), MOST, 64, scale, wrap=wrap)
+            call = text(content.encode(), MOST, 64, scale, wrap=wrap)
+            yield call
+            yield with_default(call, 0x7f)
 
 
 # ---- modes that there are none of

@@ -340,7 +340,7 @@ def main():
     check_default_reasons(seen[3])
     of_default = collections.Counter()
     held = hold_to_plain(defaults, of_default)
-    print("of codes that take the default's glyph:")
+    print("of codes without a glyph, where the default has one:")
     check_refusals(of_default, OF_DEFAULT)
     write, files = sys.argv[1:] == ["--write"], make.files()
     if write:
