@@ -24,9 +24,9 @@
  *     the stack's pointer, as Linux programs may, and without memcpy and memset:
  *
  *         thk_vet 3,700; thk_load 3,200; thk_load_strict 3,200
- *         thk_draw_string 1,300; thk_text_check 1,300
- *         thk_draw_char 900; thk_why 900; thk_draw_bitmap 900; thk_draw_glyph 800; thk_unpack_glyph 400
- *         thk_prep_char 700; thk_metrics 300; thk_property 200; each of the others 100
+ *         thk_draw_string 1,600; thk_text_check 1,500; thk_why 1,300
+ *         thk_draw_char 1,000; thk_draw_bitmap 900; thk_draw_glyph 800; thk_unpack_glyph 400
+ *         thk_prep_char 700; thk_glyph 400; thk_metrics 300; thk_property 200; each of the others 100
  *
  *     and its caller some 500 for the answer and for copies of the record and of a page's numbers. The page
  *     that `./thalluskin build` leaves beside an archive for another processor has its figures.
@@ -116,9 +116,16 @@ enum {
 /* For `wrap`: lines end at newlines alone. */
 #define THK_NO_WRAP UINT64_MAX
 
-/* For `mode`: drawing as this header describes it. Other modes are to come; until then 15 refuses every other
- * number. */
+/* How a call looks codes up: THK_PLAIN, or bits that are or-ed, of which there is one so far. 15 refuses a number with
+ * any other bit. */
+typedef uint32_t thk_mode;
+
+/* A code without a glyph has none: a call for it is refused 9, and texts skip it. */
 #define THK_PLAIN 0
+
+/* A code without a glyph, one above 65,535 too, has that of the font's default code, if that code has one of its own.
+ * In texts a carriage return and a newline are no such codes: they are never looked up. */
+#define THK_DEFAULT 1
 
 /* A character's code and a glyph's number in its font: two types, so that neither is taken for the other. */
 typedef struct {
@@ -235,7 +242,7 @@ typedef struct {
     uint64_t scale;
     uint64_t wrap;
     uint32_t colour;
-    uint32_t mode;
+    thk_mode mode;
 } thk_page;
 
 /* A buffer of `len` bytes to unpack into, one for each bit, in lines of `stride`. thk_cells_of gives one. */
@@ -244,7 +251,7 @@ typedef struct {
     uint64_t len;
     uint64_t start;
     uint64_t stride;
-    uint32_t mode;
+    thk_mode mode;
 } thk_cells;
 
 /* A glyph's bitmap, and how much of it: `width` by `height`. */
@@ -261,7 +268,7 @@ typedef struct {
     uint64_t scale;
     uint64_t wrap;
     uint32_t colour;
-    uint32_t mode;
+    thk_mode mode;
 } thk_page_numbers;
 
 /* ---- What answers hold. */
@@ -287,6 +294,13 @@ typedef struct {
     uint16_t pad_top;
     uint16_t pad_left;
 } thk_glyph_info;
+
+/* The code that has the glyph: the one asked for, or, where `is_default`, the font's default code in its place. A code
+ * with a glyph of its own is never default, even if it is the default code. */
+typedef struct {
+    thk_char_code code;
+    bool is_default;
+} thk_supplier;
 
 /* How many rows of a glyph's bitmap were drawn, and how many were dropped because the buffer ends. */
 typedef struct {
@@ -329,6 +343,7 @@ typedef struct {
     uint32_t refusal;
     uint64_t place;
     thk_glyph_index glyph;
+    thk_supplier by;
 } thk_glyph_answer;
 
 typedef struct {
@@ -359,6 +374,7 @@ typedef struct {
     uint32_t refusal;
     uint64_t place;
     thk_glyph_info info;
+    thk_supplier by;
 } thk_info_answer;
 
 typedef struct {
@@ -372,12 +388,15 @@ typedef struct {
     uint64_t place;
     thk_glyph_info info;
     thk_rows rows;
+    thk_supplier by;
 } thk_char_answer;
 
+/* Where the code has no glyph, and the default code stands in for it neither, `by` is the code asked for. */
 typedef struct {
     uint32_t refusal;
     uint64_t place;
     thk_reason reason;
+    thk_supplier by;
 } thk_why_answer;
 
 typedef struct {
@@ -428,11 +447,11 @@ typedef struct {
 uint32_t thalluskin_version(void);
 THK_DECLARE(thk_font_answer, load, const uint8_t *bytes, uint64_t bytes_len);
 THK_DECLARE(thk_font_answer, load_strict, const uint8_t *bytes, uint64_t bytes_len);
-THK_DECLARE(thk_font_answer, vet, const uint8_t *bytes, uint64_t bytes_len, uint32_t mode);
+THK_DECLARE(thk_font_answer, vet, const uint8_t *bytes, uint64_t bytes_len, thk_mode mode);
 THK_DECLARE(thk_property_answer, property, const uint8_t *bytes, uint64_t bytes_len, THK_STRUCT(thk_record) rec,
             uint32_t number);
 THK_DECLARE(thk_glyph_answer, glyph, const uint8_t *bytes, uint64_t bytes_len, THK_STRUCT(thk_record) rec,
-            THK_STRUCT(thk_char_code) code, uint32_t mode);
+            THK_STRUCT(thk_char_code) code, thk_mode mode);
 THK_DECLARE(thk_name_answer, name, const uint8_t *bytes, uint64_t bytes_len, THK_STRUCT(thk_record) rec,
             THK_STRUCT(thk_glyph_index) glyph);
 THK_DECLARE(thk_metrics_answer, metrics, const uint8_t *bytes, uint64_t bytes_len, THK_STRUCT(thk_record) rec,
@@ -440,7 +459,7 @@ THK_DECLARE(thk_metrics_answer, metrics, const uint8_t *bytes, uint64_t bytes_le
 THK_DECLARE(thk_accel_answer, accel, const uint8_t *bytes, uint64_t bytes_len, THK_STRUCT(thk_record) rec);
 THK_DECLARE(thk_extent_answer, dimensions, const uint8_t *bytes, uint64_t bytes_len, THK_STRUCT(thk_record) rec);
 THK_DECLARE(thk_info_answer, prep_char, const uint8_t *bytes, uint64_t bytes_len, THK_STRUCT(thk_record) rec,
-            THK_STRUCT(thk_char_code) code, uint32_t mode);
+            THK_STRUCT(thk_char_code) code, thk_mode mode);
 THK_DECLARE(thk_rows_answer, draw_bitmap, const uint8_t *bytes, uint64_t bytes_len, THK_STRUCT(thk_record) rec,
             THK_STRUCT(thk_bitmap) bitmap, uint32_t *buf, uint64_t buf_len, THK_STRUCT(thk_page_numbers) page);
 THK_DECLARE(thk_rows_answer, draw_glyph, const uint8_t *bytes, uint64_t bytes_len, THK_STRUCT(thk_record) rec,
@@ -571,8 +590,9 @@ static inline thk_font_answer thk_load_strict(const uint8_t *font, uint64_t font
 
 /* The record of a font that loads strictly and of which no code's glyph is ever refused for the font's sake: in such a
  * font a text is refused only for itself (19), for another argument (15), or because a pixel to colour lies beyond the
- * buffer (16). A font that thk_load takes and that is refused 27 here is to be made anew from its source, as by
- * bdftopcf; until then the record of thk_load serves every call, without that promise.
+ * buffer (16). That holds of texts in every mode, and the answer is the same in each: a glyph that stands in for
+ * another is vetted as its own code's. A font that thk_load takes and that is refused 27 here is to be made anew from
+ * its source, as by bdftopcf; until then the record of thk_load serves every call, without that promise.
  *
  * Two causes can share a number and a place. 11 at 0 is of the bounds if thk_dimensions, with the record that thk_load
  * gives, is refused 11; else of the glyph of code 0. 18 at n is of property n if thk_property is refused 18 for it;
@@ -580,7 +600,7 @@ static inline thk_font_answer thk_load_strict(const uint8_t *font, uint64_t font
  *
  * Refused 15 for an unknown mode; as thk_load_strict; 13; 11 of the bounds; 18 of a property; code by code 10, 11, 12,
  * 14, 17, 18. */
-static inline thk_font_answer thk_vet(const uint8_t *font, uint64_t font_len, uint32_t mode)
+static inline thk_font_answer thk_vet(const uint8_t *font, uint64_t font_len, thk_mode mode)
 {
     THK_ANSWER(thk_font_answer, vet, font, font_len, mode);
 }
@@ -592,9 +612,9 @@ static inline thk_property_answer thk_property(const uint8_t *font, uint64_t fon
     THK_ANSWER(thk_property_answer, property, font, font_len, THK_GIVE(rec), number);
 }
 
-/* The glyph of a code. Refused 6, 15 for an unknown mode, 9. */
+/* The glyph of a code, and the code that supplied it. Refused 6, 15 for an unknown mode, 9. */
 static inline thk_glyph_answer thk_glyph(const uint8_t *font, uint64_t font_len, const thk_record *rec,
-                                         thk_char_code code, uint32_t mode)
+                                         thk_char_code code, thk_mode mode)
 {
     THK_ANSWER(thk_glyph_answer, glyph, font, font_len, THK_GIVE(rec), THK_GIVE(&code), mode);
 }
@@ -630,11 +650,11 @@ static inline thk_extent_answer thk_dimensions(const uint8_t *font, uint64_t fon
     THK_ANSWER(thk_extent_answer, dimensions, font, font_len, THK_GIVE(rec));
 }
 
-/* A character's glyph, placed. 11 is for a width, ascent or left bearing below 0, a height, which is ascent and descent
- * together, outside 0 to 32,767, or an ascent above that of the maximum bounds. Refused 6, 15 for an unknown mode, 9,
- * 10, 11. */
+/* A character's glyph, placed, and the code that supplied it. 11 is for a width, ascent or left bearing below 0, a
+ * height, which is ascent and descent together, outside 0 to 32,767, or an ascent above that of the maximum bounds.
+ * Refused 6, 15 for an unknown mode, 9, 10, 11. */
 static inline thk_info_answer thk_prep_char(const uint8_t *font, uint64_t font_len, const thk_record *rec,
-                                            thk_char_code code, uint32_t mode)
+                                            thk_char_code code, thk_mode mode)
 {
     THK_ANSWER(thk_info_answer, prep_char, font, font_len, THK_GIVE(rec), THK_GIVE(&code), mode);
 }
@@ -654,8 +674,9 @@ static inline thk_info_answer thk_prep_char(const uint8_t *font, uint64_t font_l
  * page with one line more avoids it. A drawn row can still have a pixel to colour beyond the page, at a scale above 1
  * or in a bitmap wider than `stride`; then the call is refused (16).
  *
- * 15 refuses a start, stride, scale, width, height or pad outside its limits, and an unknown mode. A glyph is without a
- * bitmap if its number is at or above the bitmap count (12). */
+ * 15 refuses a start, stride, scale, width, height or pad outside its limits, and an unknown mode. Where a glyph is
+ * given and no code, the known modes are alike. A glyph is without a bitmap if its number is at or above the bitmap
+ * count (12). */
 
 /* A page of `len` pixels in lines of `stride`, from its first pixel on, at scale 1, in colour 1, without wrapping, in
  * mode THK_PLAIN; a program changes what it wants otherwise. */
@@ -717,8 +738,8 @@ static inline thk_rows_answer thk_draw_glyph(const uint8_t *font, uint64_t font_
                THK_GIVE(&numbers));
 }
 
-/* Draws a character, and answers its placed glyph too. One whose glyph is without a bitmap is no refusal: nothing is
- * drawn, and both numbers of rows are 0. Refused 6, 15, 9, 10, 11, 13, 14, 16. */
+/* Draws a character, and answers its placed glyph too, and the code that supplied it. One whose glyph is without a
+ * bitmap is no refusal: nothing is drawn, and both numbers of rows are 0. Refused 6, 15, 9, 10, 11, 13, 14, 16. */
 static inline thk_char_answer thk_draw_char(const uint8_t *font, uint64_t font_len, const thk_record *rec,
                                             thk_char_code code, const thk_page *page)
 {
@@ -746,7 +767,9 @@ static inline thk_char_answer thk_draw_char(const uint8_t *font, uint64_t font_l
  *   THK_WHY_BLANK          all rows are drawn, and none has a set bit, as those of a space
  *   THK_WHY_DRAWN          all rows are drawn, and there is a set bit
  *
- * The first four are those for which thk_draw_char is refused 9. Refused 6, 15. */
+ * The first four are of the code asked for, and given only where thk_draw_char is refused 9: in mode THK_DEFAULT where
+ * the font's default code has no glyph either. The others are of the glyph that is drawn, which `by` supplied. Refused
+ * 6, 15. */
 static inline thk_why_answer thk_why(const uint8_t *font, uint64_t font_len, const thk_record *rec, thk_char_code code,
                                      const thk_page *page)
 {
@@ -777,8 +800,9 @@ static inline thk_unpack_answer thk_unpack_glyph(const uint8_t *font, uint64_t f
  * beginning, and by one line at most. So a letter that ends exactly at `wrap` wraps too: on a page 240 pixels wide
  * `wrap` is 241. Nothing stops a glyph at its line's right end.
  *
- * A carriage return and a code without a glyph are skipped. A glyph without a bitmap is no refusal: it draws nothing
- * and drops nothing, but wraps and moves the pen as any other. The answer's height is y and one line height. */
+ * A carriage return and a code without a glyph are skipped; in mode THK_DEFAULT such a code is drawn by the glyph of
+ * the font's default code, if that has one. A glyph without a bitmap is no refusal: it draws nothing and drops nothing,
+ * but wraps and moves the pen as any other. The answer's height is y and one line height. */
 
 /* Draws a text. With a font that was not vetted, 11 at 0 is of the bounds if thk_dimensions is refused 11, else of the
  * first character's glyph. Refused 6, 15, 19, 11 of the bounds; then the first character with a refusal decides: 10,
@@ -854,6 +878,7 @@ THK_AT(thk_span, start, 0); THK_AT(thk_span, len, 8); THK_SIZE(thk_span, 16);
 THK_AT(thk_extent, height, 0); THK_AT(thk_extent, width, 8); THK_SIZE(thk_extent, 16);
 THK_AT(thk_glyph_info, glyph, 0); THK_AT(thk_glyph_info, width, 2); THK_AT(thk_glyph_info, height, 4);
 THK_AT(thk_glyph_info, pad_top, 6); THK_AT(thk_glyph_info, pad_left, 8); THK_SIZE(thk_glyph_info, 10);
+THK_AT(thk_supplier, code, 0); THK_AT(thk_supplier, is_default, 4); THK_SIZE(thk_supplier, 8);
 THK_AT(thk_rows, drawn, 0); THK_AT(thk_rows, dropped, 2); THK_SIZE(thk_rows, 4);
 THK_AT(thk_reason, number, 0); THK_AT(thk_reason, cut, 4); THK_SIZE(thk_reason, 8);
 THK_AT(thk_text_rows, height, 0); THK_AT(thk_text_rows, dropped, 8); THK_SIZE(thk_text_rows, 16);
@@ -867,7 +892,7 @@ THK_AT(thk_property_answer, refusal, 0); THK_AT(thk_property_answer, place, 8); 
 THK_AT(thk_property_answer, is_string, 32); THK_AT(thk_property_answer, number, 36);
 THK_AT(thk_property_answer, string, 40); THK_SIZE(thk_property_answer, 56);
 THK_AT(thk_glyph_answer, refusal, 0); THK_AT(thk_glyph_answer, place, 8); THK_AT(thk_glyph_answer, glyph, 16);
-THK_SIZE(thk_glyph_answer, 24);
+THK_AT(thk_glyph_answer, by, 20); THK_SIZE(thk_glyph_answer, 32);
 THK_AT(thk_name_answer, refusal, 0); THK_AT(thk_name_answer, place, 8); THK_AT(thk_name_answer, name, 16);
 THK_SIZE(thk_name_answer, 32);
 THK_AT(thk_metrics_answer, refusal, 0); THK_AT(thk_metrics_answer, place, 8); THK_AT(thk_metrics_answer, metrics, 16);
@@ -877,13 +902,13 @@ THK_SIZE(thk_accel_answer, 64);
 THK_AT(thk_extent_answer, refusal, 0); THK_AT(thk_extent_answer, place, 8); THK_AT(thk_extent_answer, extent, 16);
 THK_SIZE(thk_extent_answer, 32);
 THK_AT(thk_info_answer, refusal, 0); THK_AT(thk_info_answer, place, 8); THK_AT(thk_info_answer, info, 16);
-THK_SIZE(thk_info_answer, 32);
+THK_AT(thk_info_answer, by, 28); THK_SIZE(thk_info_answer, 40);
 THK_AT(thk_rows_answer, refusal, 0); THK_AT(thk_rows_answer, place, 8); THK_AT(thk_rows_answer, rows, 16);
 THK_SIZE(thk_rows_answer, 24);
 THK_AT(thk_char_answer, refusal, 0); THK_AT(thk_char_answer, place, 8); THK_AT(thk_char_answer, info, 16);
-THK_AT(thk_char_answer, rows, 26); THK_SIZE(thk_char_answer, 32);
+THK_AT(thk_char_answer, rows, 26); THK_AT(thk_char_answer, by, 32); THK_SIZE(thk_char_answer, 40);
 THK_AT(thk_why_answer, refusal, 0); THK_AT(thk_why_answer, place, 8); THK_AT(thk_why_answer, reason, 16);
-THK_SIZE(thk_why_answer, 24);
+THK_AT(thk_why_answer, by, 24); THK_SIZE(thk_why_answer, 32);
 THK_AT(thk_unpack_answer, refusal, 0); THK_AT(thk_unpack_answer, place, 8); THK_AT(thk_unpack_answer, rows, 16);
 THK_SIZE(thk_unpack_answer, 24);
 THK_AT(thk_text_answer, refusal, 0); THK_AT(thk_text_answer, place, 8); THK_AT(thk_text_answer, rows, 16);

@@ -22,13 +22,24 @@ def defined(name):
     return int(re.search(r"^#define %s (\d+)$" % name, text(), re.M)[1])
 
 
+@functools.lru_cache(None)
+def named_numbers():
+    """what the header's own names for types of numbers stand for"""
+    return {name: kind for kind, name in re.findall(r"^typedef (\w+) (\w+);", text(), re.M)}
+
+
+def plain(kind):
+    """a type without such a name"""
+    return named_numbers().get(kind, kind)
+
+
 def prototypes():
     """answer, name and parameters of the archive's functions but the version's; a parameter is its type, its name and
     whether it is a struct"""
     for answer, name, given in re.findall(r"^THK_DECLARE\((\w+), (\w+), (.*?)\);", text(), re.M | re.S):
         parts = [" ".join(one.split()) for one in given.split(",")]
         parts = [re.fullmatch(r"(?:THK_STRUCT\((\w+)\) |(.*?))(\w+)", one) for one in parts]
-        yield answer, name, [(m[1] or m[2].strip(), m[3], m[1] is not None) for m in parts]
+        yield answer, name, [(m[1] or plain(m[2].strip()), m[3], m[1] is not None) for m in parts]
 
 
 def is_pointer(kind):
@@ -42,7 +53,7 @@ def structs():
     for body, name in re.findall(r"^typedef struct \{\n(.*?)^\} (\w+);", text(), re.M | re.S):
         fields = re.findall(r"^    (\w+) (\w+);", body, re.M)
         if "*" not in body:
-            found[name] = fields
+            found[name] = [(plain(kind), field) for kind, field in fields]
     return found
 
 
