@@ -1,4 +1,5 @@
 """Calls of the exported functions, and what the model of document 01 answers to each."""
+import collections
 import random
 import struct
 
@@ -26,6 +27,7 @@ NUMBERS = ["code", "glyph", "width", "height", "pad_top", "pad_left", "len", "st
 # those that take a mode, by itself or in a page
 MODED = {"thk_vet", "thk_glyph", "thk_prep_char", "thk_draw_bitmap", "thk_draw_glyph", "thk_draw_char", "thk_why",
          "thk_unpack_glyph", "thk_draw_string", "thk_text_check"}
+DEFAULT = 1  # the mode in which a code without a glyph takes the default code's
 
 
 def zeros(kind):
@@ -45,12 +47,16 @@ def info_of(c):
     return {name: c.get(name, 0) for name in ("glyph", "width", "height", "pad_top", "pad_left")}
 
 
+def supplier(code, is_default):
+    return {"code": code, "is_default": is_default}
+
+
 def answered(c):
     """the answer's values, and the buffer after the call"""
     b, rec, buf, function = c["font"], c["rec"], c["buf"], c["function"]
     where = [c.get(name, 0) for name in ("start", "stride", "scale")]
-    colour = c.get("colour", 0)
-    if c.get("mode", 0) and function in MODED:
+    colour, mode = c.get("colour", 0), model.mode_of(c.get("mode", 0))
+    if not model.is_known(c.get("mode", 0)) and function in MODED:
         if function != "thk_vet":
             model.check_record(b, rec)
         raise model.Refused(15)
@@ -66,7 +72,8 @@ def answered(c):
         return {"name": {"start": start, "len": length}, "is_string": is_string,
                 "number": 0 if is_string else value[0], "string": string}, buf
     if function == "thk_glyph":
-        return {"glyph": model.get_glyph(b, rec, model.PLAIN, c["code"])[0]}, buf
+        glyph, *by = model.get_glyph(b, rec, mode, c["code"])
+        return {"glyph": glyph, "by": supplier(*by)}, buf
     if function == "thk_name":
         start, length = model.get_name(b, rec, c["glyph"])
         return {"name": {"start": start, "len": length}}, buf
@@ -78,28 +85,29 @@ def answered(c):
         height, width = model.dimensions(b, rec)
         return {"extent": {"height": height, "width": width}}, buf
     if function == "thk_prep_char":
-        return {"info": model.prep_char(b, rec, model.PLAIN, c["code"])[0]}, buf
+        info, *by = model.prep_char(b, rec, mode, c["code"])
+        return {"info": info, "by": supplier(*by)}, buf
     if function == "thk_draw_bitmap":
         rows, new = model.draw_bitmap(b, rec, c["glyph"], c["width"], c["height"], buf, *where, colour)
         return {"rows": {"drawn": rows[0], "dropped": rows[1]}}, new
     if function == "thk_draw_glyph":
-        rows, new = model.draw_glyph(b, rec, model.PLAIN, info_of(c), buf, *where, colour)
+        rows, new = model.draw_glyph(b, rec, mode, info_of(c), buf, *where, colour)
         return {"rows": {"drawn": rows[0], "dropped": rows[1]}}, new
     if function == "thk_draw_char":
-        (info, drawn, dropped, _, _), new = model.draw_char(b, rec, model.PLAIN, c["code"], buf, *where, colour)
-        return {"info": info, "rows": {"drawn": drawn, "dropped": dropped}}, new
+        (info, drawn, dropped, *by), new = model.draw_char(b, rec, mode, c["code"], buf, *where, colour)
+        return {"info": info, "rows": {"drawn": drawn, "dropped": dropped}, "by": supplier(*by)}, new
     if function == "thk_why":
-        number, cut, _, _ = model.why(b, rec, model.PLAIN, c["code"], c["len"], *where)
-        return {"reason": {"number": number, "cut": cut}}, buf
+        number, cut, *by = model.why(b, rec, mode, c["code"], c["len"], *where)
+        return {"reason": {"number": number, "cut": cut}, "by": supplier(*by)}, buf
     if function == "thk_unpack_glyph":
-        rows, new = model.unpack_glyph(b, rec, model.PLAIN, info_of(c), buf, *where[:2])
+        rows, new = model.unpack_glyph(b, rec, mode, info_of(c), buf, *where[:2])
         return {"rows": rows}, new
     wrap = None if c.get("wrap", 0) == LAST else c.get("wrap", 0)
     if function == "thk_draw_string":
-        rows, new = model.draw_string(b, rec, model.PLAIN, c["text"], buf, where[0], wrap, *where[1:], colour)
+        rows, new = model.draw_string(b, rec, mode, c["text"], buf, where[0], wrap, *where[1:], colour)
         return {"rows": {"height": rows[0], "dropped": rows[1]}}, new
     if function == "thk_text_check":
-        rows, _ = model.text_check(b, rec, model.PLAIN, c["text"], c["len"], where[0], wrap, *where[1:])
+        rows, _ = model.text_check(b, rec, mode, c["text"], c["len"], where[0], wrap, *where[1:])
         return {"rows": {"height": rows[0], "dropped": rows[1]}}, buf
     step = model.utf8_step(c["text"], c["start"])
     return {"found": step is not None, "code": step[0] if step else 0, "next": step[1] if step else 0}, buf
@@ -298,13 +306,13 @@ def orders_by_lot():
         yield call("thk_draw_string", b, rec, b"abcd", [7] * rng.randrange(100, 900), wrap=LAST, **where)
 
 
-def modes():
+def unknown_modes():
     """every call that takes a mode, in some that are not there: with records that fit and that do not, with arguments
     within their limits and without, of texts that are UTF-8 and that are not"""
     f = two_digits()
     rec = model.load(f)
     unfit = model.changed(rec, {"names.strings": LAST})
-    for mode in (1, 2, 256, 2 ** 31, 2 ** 32 - 1):
+    for mode in (2, 3, 256, 2 ** 31, 2 ** 31 + 1, 2 ** 32 - 1):
         yield call("thk_vet", f, mode=mode)
         yield call("thk_vet", f[:100], mode=mode)
         yield call("thk_vet", with_own_format_bit(f, 0, 0), mode=mode)
@@ -354,6 +362,44 @@ def reasons():
                     yield call("thk_why", f, of_font, **{**page, name: value})
 
 
+# default codes for F, whose codes are 0x30 and 0x31: with a glyph, just outside the bounds, and far from them
+DEFAULTS_OF_F = [{"codes.default": code} for code in (0x30, 0x31, 0x2f, 0x32, 0, 0x130, 65535)]
+# what the glyph of 0x31 may lack
+LACKS = [{"codes.default": 0x31, **lack} for lack in (
+    {"metrics.count": 1}, {"accel.maxbounds.ascent": 2}, {"bitmaps.count": 1}, {"bitmaps.unit": 3},
+    {"bitmaps.size": 5})]
+TEXTS = (b"", b"0\xc3\xa91", b"\xf0\x9f\x92\xa11\r\n\xef\xbf\xbf0", b"\r\n", b"caf\xc3\xa9\n2\r3", b"\xc3\xa9\xff")
+
+
+def default_codes():
+    """records with every sort of default code: with a glyph, which may lack something, with an empty entry, outside the
+    bounds of the first byte or of the second; codes with a glyph and without; in both modes"""
+    f, big = two_digits(), fonts.big_two_byte()
+    of_f, of_big = model.load(f), model.load(big)
+    emptied = with_bytes(f, of_f["codes"]["entries"], b"\xff\xff")
+    for changes in [*DEFAULTS_OF_F, *LACKS]:
+        made = model.changed(of_f, changes)
+        yield from looked_up(f, made, (0x30, 0x31, 0x32, 10, 13, 65535, 65536, 0x10031, 2 ** 32 - 1))
+        yield from looked_up(emptied, made, (0x30, 0x31, 0x32))
+    for default in codes_around(of_big):
+        if default <= 65535:
+            yield from looked_up(big, model.changed(of_big, {"codes.default": default}), codes_around(of_big))
+
+
+def looked_up(b, rec, codes):
+    """every call that looks codes up, in both modes"""
+    page = {"start": 0, "stride": 12, "scale": 1, "colour": 5}
+    for mode in (0, DEFAULT):
+        for code in codes:
+            yield call("thk_glyph", b, rec, code=code, mode=mode)
+            yield call("thk_prep_char", b, rec, code=code, mode=mode)
+            yield call("thk_draw_char", b, rec, buf=[7] * 60, code=code, mode=mode, **page)
+            yield call("thk_why", b, rec, len=60, code=code, mode=mode, **page)
+        for text in TEXTS:
+            yield call("thk_draw_string", b, rec, text, [7] * 150, wrap=7, mode=mode, **page)
+            yield call("thk_text_check", b, rec, text, len=150, wrap=LAST, mode=mode, **page)
+
+
 # how F comes to have each reason: what is changed of its record, and of the question for '0' on 9 pixels
 OF_F = {
     31: ({}, {"code": 65536}), 32: ({"codes.low1": 1, "codes.high1": 1}, {}), 33: ({}, {"code": 0x32}), 34: ({}, {}),
@@ -364,16 +410,21 @@ OF_F = {
 
 
 def reasons_of_f():
-    """F with each reason; 34 by its first entry, which is emptied"""
+    """F with each reason, plainly and in default mode; 34 by its first entry, which is emptied. In default mode the
+    first four are asked for with a default code outside the bounds, and the others of a code that '0' stands in for"""
     f = two_digits()
     for number, (changes, asked) in OF_F.items():
         rec = model.load(f)
         b = with_bytes(f, rec["codes"]["entries"], b"\xff\xff") if number == 34 else f
-        c = call("thk_why", b, model.changed(rec, changes),
-                 **{"code": 0x30, "len": 9, "start": 0, "stride": 3, "scale": 1, **asked})
-        if answered(c)[0]["reason"]["number"] != number:
-            fail("F is not asked so that its reason is %d" % number)
-        yield c
+        page = {"code": 0x30, "len": 9, "start": 0, "stride": 3, "scale": 1, **asked}
+        changes, in_default = {**changes, "codes.default": 0x30}, {"mode": DEFAULT, "code": 65536}
+        if number in (31, 32, 33, 34):
+            changes, in_default = {**changes, "codes.default": 0x40}, {"mode": DEFAULT}
+        for more in ({}, in_default):
+            c = call("thk_why", b, model.changed(rec, changes), **{**page, **more})
+            if answered(c)[0]["reason"]["number"] != number:
+                fail("F is not asked so that its reason is %d" % number)
+            yield c
 
 
 def page_by_lot(rng, b, rec, code):
@@ -388,6 +439,30 @@ def page_by_lot(rng, b, rec, code):
     return {**where, "len": max(0, first + rows * where["stride"] + rng.choice((-1, 0, 1, info["width"])))}
 
 
+def lacks_glyph(c):
+    """whether a code that the call looks up has no glyph"""
+    b, rec = c["font"], c["rec"]
+    try:
+        model.check_record(b, rec)
+    except model.Refused:
+        return False
+    codes = {c["code"]} if "code" in c else set(map(ord, c["text"].decode(errors="ignore"))) - {10, 13}
+    return any(model.lookup(b, rec, code) is None for code in codes)
+
+
+def in_default_mode_too(calls):
+    """those in which a code has no glyph once more in default mode, and one in eight of the others that take a mode"""
+    others = collections.Counter()
+    for c in calls:
+        yield c
+        if c["function"] in MODED and "mode" not in c:
+            others[c["function"]] += 1
+            if lacks_glyph(c) or others[c["function"]] % 8 == 1:
+                yield {**c, "mode": DEFAULT}
+
+
 def all_calls():
-    for group in (read, wrong_records, empty, modes, orders_by_lot, two_formats, reasons, reasons_of_f, drawn):
+    for group in (read, wrong_records, empty, orders_by_lot, two_formats, reasons, drawn):
+        yield from in_default_mode_too(group())
+    for group in (unknown_modes, default_codes, reasons_of_f):
         yield from group()

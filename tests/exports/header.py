@@ -67,6 +67,16 @@ def reasons():
     return len(numbers)
 
 
+def modes(text):
+    """the header's modes are the sources' and the model's: none, and a bit for each field"""
+    fields = re.findall(r"^    pub (\w+): bool,$", read("crates", "modes", "src", "lib.rt"), re.M)
+    stated = [(name, int(n)) for name, n in re.findall(r"^#define THK_(\w+) (\d+)$", text, re.M) if name != "VERSION"]
+    if tuple(fields) != model.Mode._fields or stated != [
+            ("PLAIN", 0), *((name.upper(), 2 ** k) for k, name in enumerate(fields))]:
+        fail("the header's modes are %s" % stated)
+    return stated
+
+
 def declared(text):
     """structs, prototypes and assertions are the sources', and each of the archive's functions has one of the header"""
     structs = set(re.findall(r"^\} (\w+);", text, re.M)) - IN_HEADER_ALONE
@@ -142,6 +152,7 @@ def limits(at, folder):
 def header(at, folder):
     text = read("include", "thalluskin.h")
     counts = declared(text)
+    modes(text)
     source = os.path.join(folder, "layouts.c")
     with open(source, "w") as f:
         f.write(layouts.c_program())

@@ -6,7 +6,7 @@ import re
 
 from common import ROOT, read
 
-CRATES = ["reads", "names", "tables", "place", "bitmaps", "why", "text", "thalluskin"]
+CRATES = ["reads", "names", "tables", "lookup", "place", "bitmaps", "why", "text", "thalluskin"]
 
 # bytes, which are the alignment too, and the kind; numbers are little-endian
 PLAIN = {"bool": (1, "bool"), "u8": (1, "unsigned"), "u16": (2, "unsigned"), "u32": (4, "unsigned"),
@@ -17,8 +17,8 @@ IN_C = {
     "MetricsUnpacked": "thk_measures", "AcceleratorUnpacked": "thk_accelerators", "MetricsData": "thk_metrics_data",
     "BitmapData": "thk_bitmap_data", "EncodingData": "thk_code_data", "GlyphNameData": "thk_name_data",
     "Record": "thk_record", "Span": "thk_span", "Extent": "thk_extent", "GlyphInfo": "thk_glyph_info",
-    "Rows": "thk_rows", "ReasonNumber": "thk_reason", "TextRows": "thk_text_rows", "PageNumbers": "thk_page_numbers",
-    "Bitmap": "thk_bitmap", "FontAnswer": "thk_font_answer",
+    "Supplier": "thk_supplier", "Rows": "thk_rows", "ReasonNumber": "thk_reason", "TextRows": "thk_text_rows",
+    "PageNumbers": "thk_page_numbers", "Bitmap": "thk_bitmap", "FontAnswer": "thk_font_answer",
     "PropertyAnswer": "thk_property_answer", "GlyphAnswer": "thk_glyph_answer", "NameAnswer": "thk_name_answer",
     "MetricsAnswer": "thk_metrics_answer", "AccelAnswer": "thk_accel_answer", "ExtentAnswer": "thk_extent_answer",
     "InfoAnswer": "thk_info_answer",
@@ -27,6 +27,7 @@ IN_C = {
 }
 NUMBERS_IN_C = {"bool": "bool", "u8": "uint8_t", "u16": "uint16_t", "u32": "uint32_t", "u64": "uint64_t",
                 "usize": "uint64_t", "i16": "int16_t", "i32": "int32_t"}
+NAMED_IN_C = {"mode": "thk_mode"}  # a parameter whose number has a type of its own
 SLICES_IN_C = {"&[u8]": "const uint8_t *", "&mut [u8]": "uint8_t *", "&mut [u32]": "uint32_t *"}
 IN_RUST = {"MetricsUnpacked": "Metrics", "AcceleratorUnpacked": "Accelerators"}  # the others have their own names
 
@@ -155,7 +156,7 @@ def in_c(parameters):
             yield name, SLICES_IN_C[kind]
             yield name + "_len", "uint64_t"
         else:
-            yield name, NUMBERS_IN_C.get(kind) or "THK_STRUCT(%s)" % IN_C[kind]
+            yield name, NAMED_IN_C.get(name) or NUMBERS_IN_C.get(kind) or "THK_STRUCT(%s)" % IN_C[kind]
 
 
 def in_rust(kind):

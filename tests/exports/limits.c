@@ -1,5 +1,6 @@
 /* Tries each limit of the header: the greatest number is taken, and one more is refused, and so is 0 where the least is
- * 1. Tries what the header's functions set of a page and of cells. Prints how many limits and defaults there are. */
+ * 1; of modes the greatest has every bit with a name. Tries what the header's functions set of a page and of cells.
+ * Prints how many limits and defaults there are. */
 #include <stdio.h>
 #include <stdlib.h>
 #include <string.h>
@@ -85,6 +86,7 @@ int main(int argc, char **argv)
     LIMIT(stride, 1, THK_MAX_STRIDE);
     LIMIT(scale, 1, THK_MAX_SCALE);
     LIMIT(start, 0, THK_MAX_START);
+    LIMIT(mode, THK_PLAIN, THK_PLAIN | THK_DEFAULT);
     expect("a text within", refusal(small(), THK_MAX_TEXT), THK_DONE);
     expect("a text past", refusal(small(), THK_MAX_TEXT + 1), THK_BAD_TEXT);
     tried++;

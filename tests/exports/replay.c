@@ -57,7 +57,8 @@ static size_t called(const struct call *c, uint8_t *const lent[], uint64_t len, 
 {
     const uint8_t *font = lent[FONT], *text = lent[TEXT];
     const thk_record *rec = (const thk_record *)(const void *)lent[RECORD];
-    uint32_t *buf = (uint32_t *)(void *)lent[BUFFER], mode = (uint32_t)c->mode, colour = (uint32_t)c->colour;
+    uint32_t *buf = (uint32_t *)(void *)lent[BUFFER], colour = (uint32_t)c->colour;
+    thk_mode mode = (thk_mode)c->mode;
     thk_char_code code = {(uint32_t)c->code};
     thk_glyph_index glyph = {(uint16_t)c->glyph};
     thk_glyph_info info = {glyph, (uint16_t)c->width, (uint16_t)c->height, (uint16_t)c->pad_top, (uint16_t)c->pad_left};
@@ -81,7 +82,7 @@ static size_t called(const struct call *c, uint8_t *const lent[], uint64_t len, 
         CALL(thk_font_answer, load_strict, thk_load_strict(font, len), (void *, const uint8_t *, uint64_t), font, len);
         break;
     case VET:
-        CALL(thk_font_answer, vet, thk_vet(font, len, mode), (void *, const uint8_t *, uint64_t, uint32_t), font, len,
+        CALL(thk_font_answer, vet, thk_vet(font, len, mode), (void *, const uint8_t *, uint64_t, thk_mode), font, len,
              mode);
         break;
     case PROPERTY:
@@ -89,7 +90,7 @@ static size_t called(const struct call *c, uint8_t *const lent[], uint64_t len, 
              GIVE(*rec), code.value);
         break;
     case GLYPH:
-        CALL(thk_glyph_answer, glyph, thk_glyph(font, len, rec, code, mode), (OF_FONT, STRUCT(thk_char_code), uint32_t),
+        CALL(thk_glyph_answer, glyph, thk_glyph(font, len, rec, code, mode), (OF_FONT, STRUCT(thk_char_code), thk_mode),
              font, len, GIVE(*rec), GIVE(code), mode);
         break;
     case NAME:
@@ -108,7 +109,7 @@ static size_t called(const struct call *c, uint8_t *const lent[], uint64_t len, 
         break;
     case PREP_CHAR:
         CALL(thk_info_answer, prep_char, thk_prep_char(font, len, rec, code, mode),
-             (OF_FONT, STRUCT(thk_char_code), uint32_t), font, len, GIVE(*rec), GIVE(code), mode);
+             (OF_FONT, STRUCT(thk_char_code), thk_mode), font, len, GIVE(*rec), GIVE(code), mode);
         break;
     case DRAW_BITMAP:
         CALL(thk_rows_answer, draw_bitmap, thk_draw_bitmap(font, len, rec, bitmap, &page),

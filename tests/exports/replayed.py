@@ -11,7 +11,7 @@ from exports.machine import fail, must
 from native import library
 
 REFUSAL, PLACE = ("refusal",), ("place",)  # where they stand in every answer
-REASON = ("reason", "number")
+REASON, IS_DEFAULT = ("reason", "number"), ("by", "is_default")
 SOURCE, SYSTEM = (os.path.join(TESTS, "exports", name) for name in ("replay.c", "linux.c"))
 
 
@@ -30,14 +30,28 @@ def replay(at, folder):
     for name in cases.KINDS:
         refused = ", ".join("%d: %d" % (n, seen[of, n]) for of, n in sorted(seen) if of == name and n)
         print("%s: %d answers, refused %s" % (name, seen[name, 0], refused))
-    told = collections.Counter(want[REASON] for kind, want, _ in wanted if kind == "WhyAnswer" and want[REFUSAL] == 0)
-    if set(told) != set(model.REASONS):
-        fail("no call of thk_why has the reasons %s" % sorted(set(model.REASONS) - set(told)))
-    print("thk_why: reasons %s" % ", ".join("%d: %d" % (n, told[n]) for n in model.REASONS))
+    whys(made, wanted)
+    default = [want for c, (_, want, _) in zip(made, wanted) if c.get("mode") == cases.DEFAULT]
+    print("exports: %d calls in default mode; in %d of their answers the default code supplied the glyph" % (
+        len(default), sum(want.get(IS_DEFAULT, 0) for want in default)))
     changed = set(formats.one_bit())
     print("exports: %d fonts with one bit of a format word changed: %d load, and %d strictly" % (
         len(changed), taken(changed, "thk_load"), taken(changed, "thk_load_strict")))
     print("exports: %d calls, each made twice in both of the header's shapes, agree with the model" % len(made))
+
+
+def whys(made, wanted):
+    """each reason is given plainly and in default mode, and there those of a glyph also where it is the default's"""
+    told = [(c.get("mode", 0), want[REASON], want[IS_DEFAULT]) for c, (_, want, _) in zip(made, wanted)
+            if c["function"] == "thk_why" and want[REFUSAL] == 0]
+    every = set(model.REASONS)
+    for mode, is_default, numbers in ((0, 0, every), (cases.DEFAULT, 0, every),
+                                      (cases.DEFAULT, 1, every - {31, 32, 33, 34})):
+        seen = {n for in_mode, n, by_default in told if (in_mode, by_default) == (mode, is_default)}
+        if seen != numbers:
+            fail("thk_why in mode %d, default %d, has other reasons: %s" % (mode, is_default, sorted(seen ^ numbers)))
+    counted = collections.Counter(n for _, n, _ in told)
+    print("thk_why: reasons %s" % ", ".join("%d: %d" % (n, counted[n]) for n in model.REASONS))
 
 
 def taken(fonts, function):
