@@ -1,7 +1,7 @@
 use crate::calls;
 use crate::page::{Cells, Drawing, Page};
 use crate::structs::*;
-use crate::{Reason, Refusal, PLAIN};
+use crate::{Mode, Reason, Refusal};
 
 /// A font: the bytes of its file, and the record that loading gave for them.
 ///
@@ -28,8 +28,8 @@ use crate::{Reason, Refusal, PLAIN};
 /// or in a bitmap wider than `stride`; then the call is refused (16).
 ///
 /// `stride` is 1 to [`MAX_STRIDE`](crate::MAX_STRIDE), `scale` 1 to [`MAX_SCALE`](crate::MAX_SCALE), `start` at most
-/// [`MAX_START`](crate::MAX_START), a given width, height or pad at most [`MAX_BOX`](crate::MAX_BOX), and `mode` 0; 15
-/// refuses all else. The calls that take neither a page nor a [`Drawing`] nor [`Cells`] are made in mode 0. A glyph is
+/// [`MAX_START`](crate::MAX_START), a given width, height or pad at most [`MAX_BOX`](crate::MAX_BOX); 15 refuses all
+/// else. The [`Mode`] says how codes are looked up; where a glyph is given and no code, all modes are alike. A glyph is
 /// without a bitmap if its number is at or above the bitmap count (12).
 ///
 /// # Texts
@@ -43,13 +43,14 @@ use crate::{Reason, Refusal, PLAIN};
 /// beginning, and by one line at most. So a letter that ends exactly at `wrap` wraps too: on a page 240 pixels wide
 /// `wrap` is 241. Without `wrap` lines end at newlines alone.
 ///
-/// A carriage return and a code without a glyph are skipped. A glyph without a bitmap is no refusal: it draws nothing
-/// and drops nothing, but wraps and moves the pen as any other. The answer's height is y and one line height.
+/// A carriage return and a code without a glyph are skipped; in the mode `default` such a code is drawn by the glyph of
+/// the font's default code, if that has one. A glyph without a bitmap is no refusal: it draws nothing and drops
+/// nothing, but wraps and moves the pen as any other. The answer's height is y and one line height.
 ///
 /// ```
-/// # use thalluskin::{Drawing, Font};
+/// # use thalluskin::{Drawing, Font, Mode};
 /// # let file = include_bytes!("../../../examples/f.pcf");
-/// let font = Font::vet(file)?; // its glyphs are 3 by 3
+/// let font = Font::vet(file, Mode::PLAIN)?; // its glyphs are 3 by 3
 /// assert_eq!(font.check("01", 6 * 3, Drawing::new(6))?.dropped, 1);
 /// assert_eq!(font.check("01", 6 * 4, Drawing::new(6))?.dropped, 0);
 /// assert_eq!(font.check("01", 6 * 7, Drawing::new(6).wrap(6))?.height, 6);
@@ -126,15 +127,16 @@ impl<'a> Font<'a> {
 
     /// A font that loads strictly and of which no code's glyph is ever refused for the font's sake: in such a font a
     /// text is refused only for itself (19), for another argument (15), or because a pixel to colour lies beyond the
-    /// buffer (16). A font that [`Font::load`] takes and that is refused 27 here is to be made anew from its source, as
-    /// by bdftopcf; until then the one that is loaded serves every call, without that promise.
+    /// buffer (16). That holds of texts in every mode, and the answer is the same in each: a glyph that stands in for
+    /// another is vetted as its own code's. A font that [`Font::load`] takes and that is refused 27 here is to be made
+    /// anew from its source, as by bdftopcf; until then the one that is loaded serves every call, without that promise.
     /// Refused as [`Font::load_strict`]; 13; 11 of the bounds; 18 of a property; code by code 10, 11, 12, 14, 17, 18.
     ///
     /// ```
-    /// # use thalluskin::{Font, Refusal};
+    /// # use thalluskin::{Font, Mode, Refusal};
     /// # let file = include_bytes!("../../../examples/f.pcf");
-    /// assert!(Font::vet(file).is_ok());
-    /// let cut = Font::vet(&file[..file.len() - 1]).unwrap_err();
+    /// assert!(Font::vet(file, Mode::PLAIN).is_ok());
+    /// let cut = Font::vet(&file[..file.len() - 1], Mode::PLAIN).unwrap_err();
     /// assert_eq!(cut, Refusal { number: Refusal::BAD_TABLE, place: 5 });
     /// ```
     ///
@@ -144,16 +146,16 @@ impl<'a> Font<'a> {
     /// - 18 at place n is of property n if [`Font::property`] with n is refused 18, else of the name of code n's glyph.
     ///
     /// ```
-    /// # use thalluskin::{Font, Refusal};
+    /// # use thalluskin::{Font, Mode, Refusal};
     /// # let mut file = *include_bytes!("../../../examples/f.pcf");
     /// # (file[0x9e], file[0x9f]) = (255, 255);
     /// // F with maximum bounds that have an ascent of -1
-    /// assert_eq!(Font::vet(&file).unwrap_err(), Refusal { number: Refusal::BAD_METRICS, place: 0 });
+    /// assert_eq!(Font::vet(&file, Mode::PLAIN).unwrap_err(), Refusal { number: Refusal::BAD_METRICS, place: 0 });
     /// assert_eq!(Font::load(&file)?.dimensions().unwrap_err().number, Refusal::BAD_METRICS);
     /// # Ok::<(), thalluskin::Refusal>(())
     /// ```
-    pub fn vet(bytes: &'a [u8]) -> Result<Font<'a>, Refusal> {
-        let a = calls::vet(bytes, PLAIN);
+    pub fn vet(bytes: &'a [u8], mode: Mode) -> Result<Font<'a>, Refusal> {
+        let a = calls::vet(bytes, mode.into());
         answer(a.refusal, a.place, Font { bytes, record: a.rec })
     }
 
@@ -161,11 +163,11 @@ impl<'a> Font<'a> {
     /// does not fit the bytes.
     ///
     /// ```
-    /// # use thalluskin::{Font, Refusal};
+    /// # use thalluskin::{Font, Mode, Refusal};
     /// # let file = include_bytes!("../../../examples/f.pcf");
-    /// let kept = *Font::vet(file)?.record();
-    /// assert!(Font::with_record(file, kept).glyph('0').is_ok());
-    /// assert_eq!(Font::with_record(b"", kept).glyph('0').unwrap_err().number, Refusal::BAD_TABLE);
+    /// let kept = *Font::vet(file, Mode::PLAIN)?.record();
+    /// assert!(Font::with_record(file, kept).glyph('0', Mode::PLAIN).is_ok());
+    /// assert_eq!(Font::with_record(b"", kept).dimensions().unwrap_err().number, Refusal::BAD_TABLE);
     /// # Ok::<(), thalluskin::Refusal>(())
     /// ```
     pub fn with_record(bytes: &'a [u8], record: Record) -> Font<'a> {
@@ -223,19 +225,22 @@ impl<'a> Font<'a> {
         Ok(Property { name: self.part(a.name)?, value })
     }
 
-    /// The glyph of a code, which a `char` is too. Refused 6, 9.
+    /// The glyph of a code, which a `char` is too, and the code that supplied it. Refused 6, 9.
     ///
     /// ```
-    /// # use thalluskin::{CharCode, Font, GlyphIndex, Refusal};
+    /// # use thalluskin::{CharCode, Font, GlyphIndex, Mode, Refusal, Supplier};
     /// # let file = include_bytes!("../../../examples/f.pcf");
-    /// let font = Font::load(file)?;
-    /// assert_eq!(font.glyph('1')?, GlyphIndex(1));
-    /// assert_eq!(font.glyph(CharCode(0x32)).unwrap_err().number, Refusal::NO_GLYPH);
+    /// let font = Font::load(file)?; // its default code is that of 0
+    /// let itself = Supplier { code: CharCode(0x31), is_default: false };
+    /// assert_eq!(font.glyph('1', Mode::PLAIN)?, (GlyphIndex(1), itself));
+    /// assert_eq!(font.glyph(CharCode(0x32), Mode::PLAIN).unwrap_err().number, Refusal::NO_GLYPH);
+    /// let instead = Supplier { code: CharCode(0x30), is_default: true };
+    /// assert_eq!(font.glyph(CharCode(0x32), Mode { default: true, ..Mode::PLAIN })?, (GlyphIndex(0), instead));
     /// # Ok::<(), thalluskin::Refusal>(())
     /// ```
-    pub fn glyph(&self, code: impl Into<CharCode>) -> Result<GlyphIndex, Refusal> {
-        let a = calls::glyph(self.bytes, self.record, code.into(), PLAIN);
-        answer(a.refusal, a.place, a.glyph)
+    pub fn glyph(&self, code: impl Into<CharCode>, mode: Mode) -> Result<(GlyphIndex, Supplier), Refusal> {
+        let a = calls::glyph(self.bytes, self.record, code.into(), mode.into());
+        answer(a.refusal, a.place, (a.glyph, a.by))
     }
 
     /// A glyph's name, a part of the font's own bytes. Refused 6, 17, 18.
@@ -302,19 +307,21 @@ impl<'a> Font<'a> {
         answer(a.refusal, a.place, a.extent)
     }
 
-    /// A character's glyph, placed. 11 is for a width, ascent or left bearing below 0, a height, which is ascent and
-    /// descent together, outside 0 to 32,767, or an ascent above that of the maximum bounds. Refused 6, 9, 10, 11.
+    /// A character's glyph, placed, and the code that supplied it. 11 is for a width, ascent or left bearing below 0, a
+    /// height, which is ascent and descent together, outside 0 to 32,767, or an ascent above that of the maximum
+    /// bounds. Refused 6, 9, 10, 11.
     ///
     /// ```
-    /// # use thalluskin::{Font, GlyphIndex, GlyphInfo};
+    /// # use thalluskin::{Font, GlyphIndex, GlyphInfo, Mode};
     /// # let file = include_bytes!("../../../examples/f.pcf");
     /// let placed = GlyphInfo { glyph: GlyphIndex(1), width: 3, height: 3, pad_top: 0, pad_left: 0 };
-    /// assert_eq!(Font::load(file)?.prep_char('1')?, placed);
+    /// let (info, by) = Font::load(file)?.prep_char('1', Mode::PLAIN)?;
+    /// assert_eq!((info, by.code, by.is_default), (placed, '1'.into(), false));
     /// # Ok::<(), thalluskin::Refusal>(())
     /// ```
-    pub fn prep_char(&self, code: impl Into<CharCode>) -> Result<GlyphInfo, Refusal> {
-        let a = calls::prep_char(self.bytes, self.record, code.into(), PLAIN);
-        answer(a.refusal, a.place, a.info)
+    pub fn prep_char(&self, code: impl Into<CharCode>, mode: Mode) -> Result<(GlyphInfo, Supplier), Refusal> {
+        let a = calls::prep_char(self.bytes, self.record, code.into(), mode.into());
+        answer(a.refusal, a.place, (a.info, a.by))
     }
 
     /// Draws a glyph's bitmap at `start`. Refused 6, 15, 12, 13, 14, 16.
@@ -338,11 +345,12 @@ impl<'a> Font<'a> {
     /// Refused 6, 15, 13, 14, 16.
     ///
     /// ```
-    /// # use thalluskin::{Font, Page, Rows};
+    /// # use thalluskin::{Font, Mode, Page, Rows};
     /// # let file = include_bytes!("../../../examples/f.pcf");
     /// let font = Font::load(file)?;
     /// let mut pixels = [0; 8];
-    /// let rows = font.draw_glyph(font.prep_char('0')?, &mut Page::new(&mut pixels, 3))?;
+    /// let (nil, _) = font.prep_char('0', Mode::PLAIN)?;
+    /// let rows = font.draw_glyph(nil, &mut Page::new(&mut pixels, 3))?;
     /// assert_eq!(rows, Rows { drawn: 2, dropped: 1 });
     /// assert_eq!(pixels, [1, 1, 1, 1, 0, 1, 0, 0]);
     /// # Ok::<(), thalluskin::Refusal>(())
@@ -352,41 +360,53 @@ impl<'a> Font<'a> {
         answer(a.refusal, a.place, a.rows)
     }
 
-    /// Draws a character, and answers its placed glyph too. One whose glyph is without a bitmap is no refusal: nothing
-    /// is drawn, and both numbers of rows are 0. Refused 6, 15, 9, 10, 11, 13, 14, 16.
+    /// Draws a character, and answers its placed glyph too, and the code that supplied it. One whose glyph is without a
+    /// bitmap is no refusal: nothing is drawn, and both numbers of rows are 0. Refused 6, 15, 9, 10, 11, 13, 14, 16.
     ///
     /// ```
-    /// # use thalluskin::{Font, Page, Refusal};
+    /// # use thalluskin::{Font, Mode, Page, Refusal};
     /// # let file = include_bytes!("../../../examples/f.pcf");
+    /// let font = Font::load(file)?;
     /// let mut pixels = [0; 24];
-    /// let drawn = Font::load(file)?.draw_char('0', &mut Page::new(&mut pixels, 6).scale(2));
+    /// let drawn = font.draw_char('0', &mut Page::new(&mut pixels, 6).scale(2));
     /// assert_eq!(drawn.unwrap_err().number, Refusal::BUFFER_SHORT);
     /// assert_eq!(pixels, [0; 24]);
+    /// let mode = Mode { default: true, ..Mode::PLAIN };
+    /// let (info, rows, by) = font.draw_char('é', &mut Page::new(&mut pixels, 6).mode(mode))?;
+    /// assert_eq!((info.glyph.0, rows.drawn, by.is_default), (0, 3, true));
     /// # Ok::<(), thalluskin::Refusal>(())
     /// ```
-    pub fn draw_char(&self, code: impl Into<CharCode>, page: &mut Page<'_>) -> Result<(GlyphInfo, Rows), Refusal> {
+    pub fn draw_char(
+        &self,
+        code: impl Into<CharCode>,
+        page: &mut Page<'_>,
+    ) -> Result<(GlyphInfo, Rows, Supplier), Refusal> {
         let a = calls::draw_char(self.bytes, self.record, code.into(), page.pixels, page.drawing.numbers());
-        answer(a.refusal, a.place, (a.info, a.rows))
+        answer(a.refusal, a.place, (a.info, a.rows, a.by))
     }
 
     /// Why [`Font::draw_char`] leaves a gap where a character should be, or does not, on a page of `len` pixels: one
-    /// [`Reason`], the first in their order that is true of the font, the code and the page. The first four are those
-    /// for which `draw_char` is refused 9. Refused 6, 15.
+    /// [`Reason`], the first in their order that is true of the font, the code and the page. The first four are of the
+    /// code asked for, and given only where `draw_char` is refused 9: in the mode `default` where the font's default
+    /// code has no glyph either. The others are of the glyph that is drawn, and the [`Supplier`] tells whose that is.
+    /// Refused 6, 15.
     ///
     /// ```
-    /// # use thalluskin::{Drawing, Font, Reason, Refusal};
+    /// # use thalluskin::{Drawing, Font, Mode, Reason, Refusal};
     /// # let file = include_bytes!("../../../examples/f.pcf");
-    /// let font = Font::vet(file)?; // its glyphs, of 0 and 1, are 3 by 3
-    /// assert_eq!(font.why('2', 9, Drawing::new(3))?, Reason::SecondByte);
-    /// assert_eq!(font.why('1', 9, Drawing::new(3))?, Reason::Drawn);
-    /// assert_eq!(font.why('1', 9, Drawing::new(3).start(1))?, Reason::RowsCut(1));
+    /// let font = Font::vet(file, Mode::PLAIN)?; // its glyphs, of 0 and 1, are 3 by 3
+    /// assert_eq!(font.why('2', 9, Drawing::new(3))?.0, Reason::SecondByte);
+    /// assert_eq!(font.why('1', 9, Drawing::new(3))?.0, Reason::Drawn);
+    /// assert_eq!(font.why('1', 9, Drawing::new(3).start(1))?.0, Reason::RowsCut(1));
     /// assert_eq!(font.why('1', 9, Drawing::new(0)).unwrap_err().number, Refusal::BAD_ARGUMENT);
+    /// let (reason, by) = font.why('2', 9, Drawing::new(3).mode(Mode { default: true, ..Mode::PLAIN }))?;
+    /// assert_eq!((reason, by.code, by.is_default), (Reason::Drawn, '0'.into(), true));
     /// # Ok::<(), thalluskin::Refusal>(())
     /// ```
-    pub fn why(&self, code: impl Into<CharCode>, len: u64, drawing: Drawing) -> Result<Reason, Refusal> {
+    pub fn why(&self, code: impl Into<CharCode>, len: u64, drawing: Drawing) -> Result<(Reason, Supplier), Refusal> {
         let a = calls::why(self.bytes, self.record, code.into(), len, drawing.numbers());
         let told = answer(a.refusal, a.place, a.reason)?;
-        Reason::of(told).ok_or(Refusal { number: 0, place: 0 })
+        Ok((Reason::of(told).ok_or(Refusal { number: 0, place: 0 })?, a.by))
     }
 
     /// Stores 1 for each set bit of every whole row byte of a placed glyph, columns past its width included, and
@@ -396,11 +416,12 @@ impl<'a> Font<'a> {
     /// Refused 6, 15, 13, 14, 16.
     ///
     /// ```
-    /// # use thalluskin::{Cells, Font};
+    /// # use thalluskin::{Cells, Font, Mode};
     /// # let file = include_bytes!("../../../examples/f.pcf");
     /// let font = Font::load(file)?;
     /// let mut bits = [9; 9];
-    /// assert_eq!(font.unpack_glyph(font.prep_char('1')?, &mut Cells::new(&mut bits, 3))?, 3);
+    /// let (one, _) = font.prep_char('1', Mode::PLAIN)?;
+    /// assert_eq!(font.unpack_glyph(one, &mut Cells::new(&mut bits, 3))?, 3);
     /// assert_eq!(bits, [9, 1, 9, 9, 1, 9, 9, 1, 9]);
     /// # Ok::<(), thalluskin::Refusal>(())
     /// ```
@@ -413,9 +434,9 @@ impl<'a> Font<'a> {
     /// the first character with a refusal decides: 10, 11, 13, 14, 16.
     ///
     /// ```
-    /// # use thalluskin::{Font, Page, TextRows};
+    /// # use thalluskin::{Font, Mode, Page, TextRows};
     /// # let file = include_bytes!("../../../examples/f.pcf");
-    /// let font = Font::vet(file)?;
+    /// let font = Font::vet(file, Mode::PLAIN)?;
     /// let mut pixels = [0; 18];
     /// let rows = font.draw("01", &mut Page::new(&mut pixels, 6))?;
     /// assert_eq!(rows, TextRows { height: 3, dropped: 1 });
@@ -430,9 +451,9 @@ impl<'a> Font<'a> {
     /// What [`Font::draw`] answers on a page of `len` pixels: a dry run. Refused as that.
     ///
     /// ```
-    /// # use thalluskin::{Drawing, Font, Refusal, TextRows};
+    /// # use thalluskin::{Drawing, Font, Mode, Refusal, TextRows};
     /// # let file = include_bytes!("../../../examples/f.pcf");
-    /// let font = Font::vet(file)?;
+    /// let font = Font::vet(file, Mode::PLAIN)?;
     /// let narrow = Drawing::new(6).wrap(6);
     /// assert_eq!(font.check("01", 36, narrow)?, TextRows { height: 6, dropped: 0 });
     /// assert_eq!(font.check(b"0\xff", 36, narrow), Err(Refusal { number: Refusal::BAD_TEXT, place: 1 }));

@@ -51,21 +51,22 @@ layouts! {
     Bitmap { glyph, width, height }
     PageNumbers { start, stride, scale, wrap, colour, mode }
     GlyphInfo { glyph, width, height, pad_top, pad_left }
+    Supplier { code, is_default }
     Rows { drawn, dropped }
     ReasonNumber { number, cut }
     TextRows { height, dropped }
     Span { start, len }
     FontAnswer { refusal, place, rec }
     PropertyAnswer { refusal, place, name, is_string, number, string }
-    GlyphAnswer { refusal, place, glyph }
+    GlyphAnswer { refusal, place, glyph, by }
     NameAnswer { refusal, place, name }
     MetricsAnswer { refusal, place, metrics }
     AccelAnswer { refusal, place, accel }
     ExtentAnswer { refusal, place, extent }
-    InfoAnswer { refusal, place, info }
+    InfoAnswer { refusal, place, info, by }
     RowsAnswer { refusal, place, rows }
-    CharAnswer { refusal, place, info, rows }
-    WhyAnswer { refusal, place, reason }
+    CharAnswer { refusal, place, info, rows, by }
+    WhyAnswer { refusal, place, reason, by }
     UnpackAnswer { refusal, place, rows }
     TextAnswer { refusal, place, rows }
     StepAnswer { refusal, place, found, code, next }

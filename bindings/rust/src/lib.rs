@@ -2,10 +2,10 @@
 //! every function is proved to meet its contract.
 //!
 //! ```
-//! use thalluskin::{Font, Page};
+//! use thalluskin::{Font, Mode, Page};
 //!
 //! # let file: &[u8] = include_bytes!("../../../examples/f.pcf");
-//! let font = Font::vet(file)?;
+//! let font = Font::vet(file, Mode::PLAIN)?;
 //! let mut pixels = [0; 14 * 7];
 //! let rows = font.draw("01", &mut Page::new(&mut pixels, 14).wrap(15).scale(2))?;
 //! assert_eq!((rows.height, rows.dropped), (6, 0));
@@ -27,6 +27,7 @@ mod calls;
 mod font;
 #[cfg(test)]
 mod layout;
+mod mode;
 mod page;
 mod reason;
 mod refusal;
@@ -35,10 +36,11 @@ mod structs;
 mod tests;
 
 pub use font::{utf8_step, version, Font, Property, Value, VERSION};
+pub use mode::Mode;
 pub use page::{Cells, Drawing, Page, MAX_BOX, MAX_SCALE, MAX_START, MAX_STRIDE, MAX_TEXT};
 pub use reason::Reason;
 pub use refusal::Refusal;
 pub use structs::{
     Accelerators, Bitmap, BitmapData, CharCode, EncodingData, Extent, GlyphIndex, GlyphInfo, GlyphNameData, Metrics,
-    MetricsData, PropertiesData, Record, Rows, TextRows, PLAIN,
+    MetricsData, PropertiesData, Record, Rows, Supplier, TextRows,
 };

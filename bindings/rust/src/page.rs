@@ -1,5 +1,6 @@
 use crate::calls::length;
-use crate::structs::{PageNumbers, PLAIN};
+use crate::structs::PageNumbers;
+use crate::Mode;
 
 /// The greatest `stride`; the least is 1.
 ///
@@ -53,10 +54,10 @@ pub const MAX_TEXT: u64 = 65_535;
 /// [`GlyphInfo`](crate::GlyphInfo).
 ///
 /// ```
-/// # use thalluskin::{Font, GlyphInfo, Page, Refusal, MAX_BOX};
+/// # use thalluskin::{Font, GlyphInfo, Mode, Page, Refusal, MAX_BOX};
 /// # let file = include_bytes!("../../../examples/f.pcf");
 /// let font = Font::load(file)?;
-/// let low = GlyphInfo { pad_top: MAX_BOX as u16 + 1, ..font.prep_char('0')? };
+/// let low = GlyphInfo { pad_top: MAX_BOX as u16 + 1, ..font.prep_char('0', Mode::PLAIN)?.0 };
 /// assert_eq!(font.draw_glyph(low, &mut Page::new(&mut [], 3)).unwrap_err().number, Refusal::BAD_ARGUMENT);
 /// # Ok::<(), thalluskin::Refusal>(())
 /// ```
@@ -65,9 +66,9 @@ pub const MAX_BOX: u64 = 32_767;
 /// The numbers of a drawing, without its pixels: what a dry run needs, and what can be kept for many drawings.
 ///
 /// ```
-/// # use thalluskin::{Drawing, Font};
+/// # use thalluskin::{Drawing, Font, Mode};
 /// # let file = include_bytes!("../../../examples/f.pcf");
-/// let font = Font::vet(file)?;
+/// let font = Font::vet(file, Mode::PLAIN)?;
 /// let large = Drawing::new(14).scale(2);
 /// let mut pixels = [0; 14 * 14];
 /// font.draw("01", &mut large.on(&mut pixels))?;
@@ -88,20 +89,20 @@ pub struct Drawing {
     pub wrap: Option<u64>,
     /// The value that a coloured pixel gets.
     pub colour: u32,
-    /// How it is drawn: [`PLAIN`], 0; all others are refused (15).
-    pub mode: u32,
+    /// How codes are looked up.
+    pub mode: Mode,
 }
 
 impl Drawing {
-    /// On lines of `stride` pixels: from pixel 0 on, at scale 1, in colour 1, without wrapping, in mode [`PLAIN`].
+    /// On lines of `stride` pixels: from pixel 0 on, at scale 1, in colour 1, without wrapping, in [`Mode::PLAIN`].
     ///
     /// ```
-    /// # use thalluskin::Drawing;
-    /// let plain = Drawing { start: 0, stride: 240, scale: 1, wrap: None, colour: 1, mode: 0 };
+    /// # use thalluskin::{Drawing, Mode};
+    /// let plain = Drawing { start: 0, stride: 240, scale: 1, wrap: None, colour: 1, mode: Mode::PLAIN };
     /// assert_eq!(Drawing::new(240), plain);
     /// ```
     pub const fn new(stride: u64) -> Drawing {
-        Drawing { start: 0, stride, scale: 1, wrap: None, colour: 1, mode: PLAIN }
+        Drawing { start: 0, stride, scale: 1, wrap: None, colour: 1, mode: Mode::PLAIN }
     }
 
     /// The same from another pixel on.
@@ -145,13 +146,18 @@ impl Drawing {
         Drawing { colour, ..self }
     }
 
-    /// The same in another mode. There is none yet but [`PLAIN`].
+    /// The same in another mode.
     ///
     /// ```
-    /// # use thalluskin::Drawing;
-    /// assert_eq!(Drawing::new(240).mode(0), Drawing::new(240));
+    /// # use thalluskin::{Drawing, Font, Mode};
+    /// # let file = include_bytes!("../../../examples/f.pcf");
+    /// let font = Font::vet(file, Mode::PLAIN)?; // its glyphs, of 0 and 1, are 3 by 3
+    /// let one_each_line = Drawing::new(3).wrap(4);
+    /// assert_eq!(font.check("né", 99, one_each_line)?.height, 3);
+    /// assert_eq!(font.check("né", 99, one_each_line.mode(Mode { default: true, ..Mode::PLAIN }))?.height, 6);
+    /// # Ok::<(), thalluskin::Refusal>(())
     /// ```
-    pub const fn mode(self, mode: u32) -> Drawing {
+    pub const fn mode(self, mode: Mode) -> Drawing {
         Drawing { mode, ..self }
     }
 
@@ -169,16 +175,16 @@ impl Drawing {
     // As they go into a call, where the greatest number is no wrap.
     pub(crate) fn numbers(self) -> PageNumbers {
         let Drawing { start, stride, scale, wrap, colour, mode } = self;
-        PageNumbers { start, stride, scale, wrap: wrap.unwrap_or(u64::MAX), colour, mode }
+        PageNumbers { start, stride, scale, wrap: wrap.unwrap_or(u64::MAX), colour, mode: mode.into() }
     }
 }
 
 /// Pixels to draw on, and how: lines of `stride` pixels, and the other numbers of a [`Drawing`].
 ///
 /// ```
-/// # use thalluskin::{Font, Page};
+/// # use thalluskin::{Font, Mode, Page};
 /// # let file = include_bytes!("../../../examples/f.pcf");
-/// let font = Font::vet(file)?;
+/// let font = Font::vet(file, Mode::PLAIN)?;
 /// let mut pixels = [0; 14 * 7];
 /// let mut page = Page::new(&mut pixels, 14).scale(2).colour(7);
 /// font.draw("01", &mut page)?;
@@ -198,7 +204,8 @@ pub struct Page<'p> {
 }
 
 impl<'p> Page<'p> {
-    /// Lines of `stride` pixels, drawn on from pixel 0 on, at scale 1, in colour 1, without wrapping, [`PLAIN`].
+    /// Lines of `stride` pixels, drawn on from pixel 0 on, at scale 1, in colour 1, without wrapping,
+    /// in [`Mode::PLAIN`].
     ///
     /// ```
     /// # use thalluskin::{Drawing, Page};
@@ -250,22 +257,23 @@ impl<'p> Page<'p> {
         Page { drawing: self.drawing.colour(colour), ..self }
     }
 
-    /// The same in another mode. There is none yet but [`PLAIN`]; all others are refused (15).
+    /// The same in another mode.
     ///
     /// ```
-    /// # use thalluskin::Page;
-    /// assert_eq!(Page::new(&mut [0; 480], 240).mode(0).drawing.mode, 0);
+    /// # use thalluskin::{Mode, Page};
+    /// let mode = Mode { default: true, ..Mode::PLAIN };
+    /// assert_eq!(Page::new(&mut [0; 480], 240).mode(mode).drawing.mode, mode);
     /// ```
-    pub fn mode(self, mode: u32) -> Page<'p> {
+    pub fn mode(self, mode: Mode) -> Page<'p> {
         Page { drawing: self.drawing.mode(mode), ..self }
     }
 
     /// How many pixels there are, as [`Font::check`](crate::Font::check) asks for it.
     ///
     /// ```
-    /// # use thalluskin::{Font, Page};
+    /// # use thalluskin::{Font, Mode, Page};
     /// # let file = include_bytes!("../../../examples/f.pcf");
-    /// let font = Font::vet(file)?;
+    /// let font = Font::vet(file, Mode::PLAIN)?;
     /// let mut pixels = [0; 24];
     /// let mut page = Page::new(&mut pixels, 6);
     /// if font.check("01", page.room(), page.drawing)?.dropped == 0 {
@@ -281,11 +289,12 @@ impl<'p> Page<'p> {
 /// Bytes to unpack a glyph into, one for each bit, in lines of `stride` bytes.
 ///
 /// ```
-/// # use thalluskin::{Cells, Font};
+/// # use thalluskin::{Cells, Font, Mode};
 /// # let file = include_bytes!("../../../examples/f.pcf");
 /// let font = Font::load(file)?;
 /// let mut bytes = [0; 12];
-/// font.unpack_glyph(font.prep_char('0')?, &mut Cells::new(&mut bytes, 4).start(1))?;
+/// let (nil, _) = font.prep_char('0', Mode::PLAIN)?;
+/// font.unpack_glyph(nil, &mut Cells::new(&mut bytes, 4).start(1))?;
 /// assert_eq!(bytes, [0, 1, 1, 1, 0, 1, 0, 1, 0, 1, 1, 1]);
 /// # Ok::<(), thalluskin::Refusal>(())
 /// ```
@@ -298,12 +307,12 @@ pub struct Cells<'p> {
     pub start: u64,
     /// How many bytes a line has, 1 to [`MAX_STRIDE`].
     pub stride: u64,
-    /// How it is unpacked: [`PLAIN`], 0; all others are refused (15).
-    pub mode: u32,
+    /// How codes are looked up. A glyph is unpacked alike in every mode.
+    pub mode: Mode,
 }
 
 impl<'p> Cells<'p> {
-    /// Lines of `stride` bytes, from byte 0 on, in mode [`PLAIN`].
+    /// Lines of `stride` bytes, from byte 0 on, in [`Mode::PLAIN`].
     ///
     /// ```
     /// # use thalluskin::Cells;
@@ -311,7 +320,7 @@ impl<'p> Cells<'p> {
     /// assert_eq!(Cells::new(&mut bytes, 3).start, 0);
     /// ```
     pub fn new(bytes: &'p mut [u8], stride: u64) -> Cells<'p> {
-        Cells { bytes, start: 0, stride, mode: PLAIN }
+        Cells { bytes, start: 0, stride, mode: Mode::PLAIN }
     }
 
     /// The same from another byte on.
@@ -324,13 +333,14 @@ impl<'p> Cells<'p> {
         Cells { start, ..self }
     }
 
-    /// The same in another mode. There is none yet but [`PLAIN`].
+    /// The same in another mode.
     ///
     /// ```
-    /// # use thalluskin::Cells;
-    /// assert_eq!(Cells::new(&mut [0; 9], 3).mode(0).mode, 0);
+    /// # use thalluskin::{Cells, Mode};
+    /// let mode = Mode { default: true, ..Mode::PLAIN };
+    /// assert_eq!(Cells::new(&mut [0; 9], 3).mode(mode).mode, mode);
     /// ```
-    pub fn mode(self, mode: u32) -> Cells<'p> {
+    pub fn mode(self, mode: Mode) -> Cells<'p> {
         Cells { mode, ..self }
     }
 

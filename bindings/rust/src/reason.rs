@@ -4,15 +4,15 @@ use core::fmt;
 /// Why a character is on the page or not: what [`Font::why`](crate::Font::why) names, in the order in which it looks.
 ///
 /// ```
-/// # use thalluskin::{Drawing, Font, Reason};
+/// # use thalluskin::{Drawing, Font, Mode, Reason};
 /// # let file = include_bytes!("../../../examples/f.pcf");
-/// let cut = Font::vet(file)?.why('0', 8, Drawing::new(3))?;
+/// let (cut, _) = Font::vet(file, Mode::PLAIN)?.why('0', 8, Drawing::new(3))?;
 /// assert_eq!(cut, Reason::RowsCut(1));
 /// assert_eq!(cut.to_string(), "rows cut at the buffer's end: 1");
 /// # Ok::<(), thalluskin::Refusal>(())
 /// ```
 ///
-/// Other modes are to come, and with them further reasons.
+/// Further modes are to come, and with them further reasons.
 #[derive(Clone, Copy, Debug, PartialEq, Eq)]
 #[non_exhaustive]
 pub enum Reason {

@@ -1,17 +1,9 @@
 //! The numbers that go into the library and come out of it, laid out as C does. Places and lengths have 64 bits on
 //! every processor.
 
-/// The mode of a drawing as [`Font`](crate::Font) describes it, the only one so far: a call in another is refused (15).
-///
-/// ```
-/// # use thalluskin::{Drawing, Font, Refusal, PLAIN};
-/// # let file = include_bytes!("../../../examples/f.pcf");
-/// let font = Font::load(file)?;
-/// assert!(font.check("0", 9, Drawing::new(3).mode(PLAIN)).is_ok());
-/// assert_eq!(font.check("0", 9, Drawing::new(3).mode(1)).unwrap_err().number, Refusal::BAD_ARGUMENT);
-/// # Ok::<(), thalluskin::Refusal>(())
-/// ```
-pub const PLAIN: u32 = 0;
+// The numbers of modes: none, and a bit for each field. A call with any other bit is refused (15).
+pub(crate) const PLAIN: u32 = 0;
+pub(crate) const DEFAULT: u32 = 1;
 
 /// A character's code. A `char` becomes one wherever a code is asked for.
 #[repr(C)]
@@ -157,7 +149,7 @@ pub struct EncodingData {
     pub low1: u16,
     /// The greatest first byte.
     pub high1: u16,
-    /// The default code, which is not used: a code without a glyph has none.
+    /// The default code, whose glyph a code without one has in the mode that [`Mode`](crate::Mode) calls `default`.
     pub default_code: u16,
     /// Where the entries begin, a glyph's number of 2 bytes for each code.
     pub entries: u64,
@@ -229,6 +221,18 @@ pub struct GlyphInfo {
     pub pad_top: u16,
     /// How far its bitmap stands right of the pen.
     pub pad_left: u16,
+}
+
+/// The code that has a glyph: the one asked for, or, where `is_default`, the font's default code in its place.
+#[repr(C)]
+#[cfg_attr(test, derive(Default))]
+#[derive(Clone, Copy, Debug, PartialEq, Eq)]
+pub struct Supplier {
+    /// The code whose own glyph it is.
+    pub code: CharCode,
+    /// Whether it stands in for the code asked for. A code with a glyph of its own is never default, even if it is the
+    /// font's default code.
+    pub is_default: bool,
 }
 
 /// A glyph's bitmap, and how much of it: `width` by `height`, each at most [`MAX_BOX`](crate::MAX_BOX).
@@ -334,6 +338,7 @@ pub(crate) struct GlyphAnswer {
     pub refusal: u32,
     pub place: u64,
     pub glyph: GlyphIndex,
+    pub by: Supplier,
 }
 
 #[repr(C)]
@@ -374,6 +379,7 @@ pub(crate) struct InfoAnswer {
     pub refusal: u32,
     pub place: u64,
     pub info: GlyphInfo,
+    pub by: Supplier,
 }
 
 #[repr(C)]
@@ -391,6 +397,7 @@ pub(crate) struct CharAnswer {
     pub place: u64,
     pub info: GlyphInfo,
     pub rows: Rows,
+    pub by: Supplier,
 }
 
 #[repr(C)]
@@ -399,6 +406,7 @@ pub(crate) struct WhyAnswer {
     pub refusal: u32,
     pub place: u64,
     pub reason: ReasonNumber,
+    pub by: Supplier,
 }
 
 #[repr(C)]
