@@ -67,14 +67,19 @@ def reasons():
     return len(numbers)
 
 
-def modes(text):
-    """the header's modes are the sources' and the model's: none, and a bit for each field"""
+def c_modes():
+    """the names and numbers of the header's modes"""
+    defined = re.findall(r"^#define THK_(\w+) (\d+)$", read("include", "thalluskin.h"), re.M)
+    return [(name, int(n)) for name, n in defined if name != "VERSION"]
+
+
+def modes():
+    """the modes are the sources' and the model's: none, and a bit for each field; how many there are"""
     fields = re.findall(r"^    pub (\w+): bool,$", read("crates", "modes", "src", "lib.rt"), re.M)
-    stated = [(name, int(n)) for name, n in re.findall(r"^#define THK_(\w+) (\d+)$", text, re.M) if name != "VERSION"]
-    if tuple(fields) != model.Mode._fields or stated != [
-            ("PLAIN", 0), *((name.upper(), 2 ** k) for k, name in enumerate(fields))]:
-        fail("the header's modes are %s" % stated)
-    return stated
+    wanted = [("PLAIN", 0), *((name.upper(), 2 ** k) for k, name in enumerate(fields))]
+    if tuple(fields) != model.Mode._fields or c_modes() != wanted:
+        fail("the header's modes are %s" % c_modes())
+    return len(wanted)
 
 
 def declared(text):
@@ -151,8 +156,7 @@ def limits(at, folder):
 
 def header(at, folder):
     text = read("include", "thalluskin.h")
-    counts = declared(text)
-    modes(text)
+    counts = *declared(text), modes()
     source = os.path.join(folder, "layouts.c")
     with open(source, "w") as f:
         f.write(layouts.c_program())
@@ -166,5 +170,5 @@ def header(at, folder):
     number = sum(int(part) * size for part, size in zip(version.groups(), (10000, 100, 1)))
     if "#define THK_VERSION %d\n" % number not in text:
         fail("the header's version is not the Rust crate's")
-    print("exports: the header's %d structs, %d prototypes, %d assertions and %d reasons are the sources'; "
+    print("exports: the header's %d structs, %d prototypes, %d assertions, %d reasons and %d modes are the sources'; "
           "%d dialects, %d processors, %d limits and defaults" % (*counts, spoken, len(SERVED), limits(at, folder)))

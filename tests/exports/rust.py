@@ -5,7 +5,7 @@ import re
 
 from common import ROOT, read, run
 from exports import layouts
-from exports.header import c_reason_words, c_reasons, c_refusals, c_words, of_source
+from exports.header import c_modes, c_reason_words, c_reasons, c_refusals, c_words, of_source
 from exports.machine import ARCHIVE, fail, must
 from native import library
 
@@ -16,7 +16,7 @@ BUILT = os.path.join(ROOT, "target", "rust")
 
 
 def declarations():
-    """the crate's prototypes are the sources', and its refusals, reasons, words and limits the header's"""
+    """the crate's prototypes are the sources', and its refusals, reasons, words, limits and modes the header's"""
     listed = re.search(r"^calls! \{$(.*?)^\}$", read("bindings", "rust", "src", "calls.rs"), re.M | re.S)[1]
     prototypes = {("thalluskin_" + name, parameters, answer) for name, parameters, answer in re.findall(
         r"^    fn (\w+)\((.*)\) -> (\w+);$", listed, re.M)}
@@ -43,7 +43,17 @@ def declarations():
     in_c = re.findall(r"\bTHK_(MAX_\w+) UINT64_C\((\d+)\)", read("include", "thalluskin.h"))
     if sorted(limits) != sorted(in_c) or not limits:
         fail("the Rust crate's limits are not the header's: %s" % sorted(set(limits) ^ set(in_c)))
+    modes()
     types()
+
+
+def modes():
+    """its numbers for modes are the header's, and there is a field for each but the plain one"""
+    source = read("bindings", "rust", "src", "structs.rs")
+    numbers = [(name, int(n)) for name, n in re.findall(r"^pub\(crate\) const (\w+): u32 = (\d+);", source, re.M)]
+    fields = re.findall(r"^    pub (\w+): bool,$", read("bindings", "rust", "src", "mode.rs"), re.M)
+    if numbers != c_modes() or [name.upper() for name in fields] != [name for name, _ in numbers[1:]]:
+        fail("the Rust crate's modes are not the header's: %s, %s" % (numbers, fields))
 
 
 def types():
@@ -165,5 +175,5 @@ def rust(folder, archive):
         print("exports: Rust: not compiled for %s, whose core is not installed" % ", ".join(lacking))
     scripts = build_script(folder)
     print("exports: Rust: %d unit tests %s, %d doc tests, %d other targets, %d tries of the build script, %s; its "
-          "structs, declarations, refusals, reasons, words and limits are the sources' or the header's" % (
+          "structs, declarations, refusals, reasons, words, limits and modes are the sources' or the header's" % (
               counts[0], shapes, counts[1], checked, scripts, linted))
