@@ -391,7 +391,7 @@ typedef struct {
     thk_supplier by;
 } thk_char_answer;
 
-/* Where the code has no glyph, and the default code stands in for it neither, `by` is the code asked for. */
+/* Where there is no glyph to speak of, `by` is the code asked for, of which the reason speaks then. */
 typedef struct {
     uint32_t refusal;
     uint64_t place;
