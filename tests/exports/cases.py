@@ -155,7 +155,7 @@ def drawn():
 
 def as_exported(b, rec, c, colour):
     kind, length = c["call"], c.get("len", 0)
-    numbers = {name: c[name] for name in ("start", "stride", "scale", "code") if name in c}
+    numbers = {name: c[name] for name in ("start", "stride", "scale", "code", "mode") if name in c}
     if kind == "step_at":
         yield call("thk_utf8_step", text=c["text"], start=c["start"])
     elif kind == "prep_char":
@@ -455,7 +455,7 @@ def in_default_mode_too(calls):
     others = collections.Counter()
     for c in calls:
         yield c
-        if c["function"] in MODED and "mode" not in c:
+        if c["function"] in MODED and c.get("mode", 0) == 0:
             others[c["function"]] += 1
             if lacks_glyph(c) or others[c["function"]] % 8 == 1:
                 yield {**c, "mode": DEFAULT}
