@@ -2,7 +2,8 @@
 // whether the caretaker may copy the page, once for a panel that is high enough and once for one that is not.
 use font::Reading;
 use load::Loaded;
-use lookup::Found;
+use lookup::Served;
+use modes::plain;
 use reads::CharCode;
 use text::TextDrawn;
 use text::Wrap;
@@ -12,10 +13,10 @@ fn has_zero(file: &[u8]) -> bool {
     let loaded = load::load_pcf(file);
     match loaded {
         Loaded::Font(rec) => {
-            let found = lookup::get_glyph(file, rec, CharCode(0x30));
+            let found = lookup::get_glyph(file, rec, plain(), CharCode(0x30));
             match found {
-                Found::Glyph(_) => true,
-                Found::Refused(_) => false,
+                Served::Glyph(_, _) => true,
+                Served::Refused(_) => false,
             }
         }
         Loaded::Refused(_) => false,
@@ -29,6 +30,7 @@ fn uncut(file: &[u8], text: &[u8], panel: &mut [u32]) -> bool {
     let drawn = font::show_string(
         file,
         Reading::Vetted,
+        plain(),
         text,
         &mut *panel,
         0,

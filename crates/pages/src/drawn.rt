@@ -7,6 +7,7 @@ use console::refusal;
 use console::say;
 use console::say_with;
 use font::string_through;
+use modes::plain;
 use tables::Record;
 use text::TextDrawn;
 use text::text_check;
@@ -25,7 +26,7 @@ fn answer(drawn: TextDrawn) {
 fn dry(font: &[u8], rec: Record, text: &[u8], a: Asked) {
     let wrap = a.wrap;
     say(b"; dry run ");
-    answer(text_check(font, rec, text, a.len, 0, wrap, a.stride, a.scale));
+    answer(text_check(font, rec, plain(), text, a.len, 0, wrap, a.stride, a.scale));
     say(b"\n");
 }
 
@@ -58,6 +59,7 @@ fn wet(font: &[u8], rec: Record, text: &[u8], a: Asked, buf: &mut [u32]) {
     answer(string_through(
         font,
         rec,
+        plain(),
         text,
         &mut *buf,
         0,
