@@ -25,7 +25,7 @@ use Rattle.bitmaps.specs.Unpack.{unscaled, unpackedAt, unpackedLeaves}
 use Rattle.bitmaps.specs.declared.Drawn.{Drawn}
 use Rattle.bitmaps.specs.declared.Unpacked.{Unpacked}
 use Rattle.outcome.proofs.WithinLimits.{place-limits}
-use Rattle.place.specs.Info.{prepared}
+use Rattle.place.specs.Info.{preparedIn}
 use Rattle.place.specs.declared.GlyphInfo.{GlyphInfo}
 use Rattle.place.specs.declared.CharPrepared.{CharPrepared}
 use Rattle.glyphs.specs.Glyph.{placeOf, okInfo, nothingDrawn, glyphDrawn, glyphReady, drawGlyph}
@@ -90,20 +90,20 @@ placed-within false within q i by e = let z : _≡_ {A = ℕ} 0 1 = cc in absurd
 
 module _ (s : List ℕ) (rec : Record) (mode : Mode) (code : ℕ) (at : Place) (place : Bool) (permit : Permit) (place-is : place ≡ okPlace at)
     (permit-is : permit ≡ guard s rec place) where
-  pub ready-placed : (r : CharPrepared) → permit ≡ Permit.Given → r ≡ prepared s rec mode code → r ≡ charReady s rec mode code at
+  pub ready-placed : (r : CharPrepared) → permit ≡ Permit.Given → r ≡ preparedIn s rec mode code → r ≡ charReady s rec mode code at
   unfolding charReady
-  ready-placed r e is = rw (← place-is) (is ∙ sym (guarded-answers s rec place permit permit-is CharPrepared.Refused (prepared s rec mode code) e))
+  ready-placed r e is = rw (← place-is) (is ∙ sym (guarded-answers s rec place permit permit-is CharPrepared.Refused (preparedIn s rec mode code) e))
 
   pub ready-refused : (r : Refusal) → permit ≡ Permit.Refused r → CharPrepared.Refused r ≡ charReady s rec mode code at
   unfolding charReady
-  ready-refused r e = rw (← place-is) (sym (guarded-refuses s rec place permit permit-is CharPrepared.Refused (prepared s rec mode code) r e))
+  ready-refused r e = rw (← place-is) (sym (guarded-refuses s rec place permit permit-is CharPrepared.Refused (preparedIn s rec mode code) r e))
 
 module _ (s : List ℕ) (rec : Record) (mode : Mode) (code start stride scale : ℕ) (ready : CharPrepared)
     (ready-is : ready ≡ charReady s rec mode code (placeAt start stride scale)) (i : GlyphInfo) (by : Supplier) (e : ready ≡ CharPrepared.Info i by) where
   char-within : okPlace (placeAt start stride scale) ≡ true
   unfolding charReady
   char-within =
-      placed-within (recordFits (length s) rec) (okPlace (placeAt start stride scale)) (prepared s rec mode code) i by (sym ready-is ∙ e)
+      placed-within (recordFits (length s) rec) (okPlace (placeAt start stride scale)) (preparedIn s rec mode code) i by (sym ready-is ∙ e)
 
   pub char-stride-fits : Fits w16 stride
   char-stride-fits = omega (arith, place-limits start stride scale char-within)

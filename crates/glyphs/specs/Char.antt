@@ -13,7 +13,7 @@ use Rattle.bitmaps.specs.Place.{Place}
 use Rattle.bitmaps.specs.Limits.{okPlace}
 use Rattle.bitmaps.specs.Draw.{rowsValues}
 use Rattle.bitmaps.specs.declared.Drawn.{Drawn}
-use Rattle.place.specs.Info.{infoValues, prepared}
+use Rattle.place.specs.Info.{infoValues, preparedIn}
 use Rattle.glyphs.specs.Glyph.{glyphDrawn, inInfo}
 use Rattle.place.specs.declared.GlyphInfo.{GlyphInfo}
 use Rattle.place.specs.declared.CharPrepared.{CharPrepared}
@@ -30,7 +30,7 @@ charOf i by (Drawn.Refused r) = CharDrawn.Refused r
 
 -- a character placed, with the tests before: 6, 15, 9, 10, 11
 unfoldable pub charReady : List ℕ → Record → Mode → ℕ → Place → CharPrepared
-charReady s rec mode code at = guarded CharPrepared.Refused s rec (okPlace at) (prepared s rec mode code)
+charReady s rec mode code at = guarded CharPrepared.Refused s rec (okPlace at) (preparedIn s rec mode code)
 
 -- `draw_char`: 6, 15, 9, 10, 11, then 13, 14, 16
 unfoldable pub drawChar : List ℕ → Record → Mode → ℕ → ℕ → Place → CharDrawn

@@ -46,7 +46,14 @@ fn char_ready(
         ok_place(start, stride, scale),
     );
     match permit {
-        Permit::Given => char_info(bytes, rec, mode, code),
+        Permit::Given => char_info(
+            bytes,
+            rec.codes,
+            mode,
+            rec.metrics,
+            rec.accel.maxbounds,
+            code,
+        ),
         Permit::Refused(r) => CharPrepared::Refused(r),
     }
 }

@@ -12,9 +12,9 @@ use Rattle.reads.specs.Said.{refusal}
 use Rattle.reads.specs.declared.GlyphIndex.{GlyphIndex}
 use Rattle.reads.specs.declared.Refusal.{Refusal}
 use Rattle.reads.proofs.Signed.{back}
+use Rattle.tables.specs.declared.EncodingData.{EncodingData}
 use Rattle.tables.specs.declared.MetricsData.{MetricsData}
 use Rattle.tables.specs.declared.MetricsUnpacked.{MetricsUnpacked}
-use Rattle.tables.specs.declared.Record.{Record}
 use Rattle.modes.specs.declared.Mode.{Mode}
 use Rattle.lookup.specs.Served.{served}
 use Rattle.lookup.specs.declared.Served.{Served}
@@ -22,7 +22,7 @@ use Rattle.lookup.specs.declared.Supplier.{Supplier}
 use Rattle.metrics.specs.Measure.{metricsOf}
 use Rattle.metrics.specs.declared.Measured.{Measured}
 use Rattle.place.specs.Bounds.{heightOf, inRange, boundsHold, boundsSized}
-use Rattle.place.specs.Info.{placeable, boxOf, boxed, infoOf, infoIn, prepared}
+use Rattle.place.specs.Info.{placeable, boxOf, boxed, infoOf, prepared}
 use Rattle.place.specs.declared.CharPrepared.{CharPrepared}
 use Rattle.place.specs.declared.GlyphInfo.{GlyphInfo}
 use Rattle.place.specs.declared.Prepared.{Prepared}
@@ -135,16 +135,17 @@ module _ (s : List ℕ) (metrics : MetricsData) (bounds : MetricsUnpacked) where
     unfolding infoOf
     info-boxed m r e t is = rw (← measured-is, e) (rw (back w16 (bounds .ascent) t) at is)
 
-module _ (s : List ℕ) (rec : Record) (mode : Mode) (code : ℕ) (found : Served) (found-is : found ≡ served s (rec .codes) mode code) where
-  pub char-refused : (r : Refusal) → found ≡ Served.Refused r → CharPrepared.Refused r ≡ prepared s rec mode code
+module _ (s : List ℕ) (codes : EncodingData) (mode : Mode) (metrics : MetricsData) (bounds : MetricsUnpacked) (code : ℕ) (found : Served)
+    (found-is : found ≡ served s codes mode code) where
+  pub char-refused : (r : Refusal) → found ≡ Served.Refused r → CharPrepared.Refused r ≡ prepared s codes mode metrics bounds code
   unfolding prepared
   char-refused r e = rw (← found-is, e)
 
-  module _ (g : GlyphIndex) (by : Supplier) (e : found ≡ Served.Glyph g by) (info : Prepared) (info-is : info ≡ infoIn s rec g) where
-    pub char-unplaced : (r : Refusal) → info ≡ Prepared.Refused r → CharPrepared.Refused r ≡ prepared s rec mode code
+  module _ (g : GlyphIndex) (by : Supplier) (e : found ≡ Served.Glyph g by) (info : Prepared) (info-is : info ≡ infoOf s metrics bounds g) where
+    pub char-unplaced : (r : Refusal) → info ≡ Prepared.Refused r → CharPrepared.Refused r ≡ prepared s codes mode metrics bounds code
     unfolding prepared
     char-unplaced r none = rw (← found-is, e, ← info-is, none)
 
-    pub char-placed : (i : GlyphInfo) → info ≡ Prepared.Info i → CharPrepared.Info i by ≡ prepared s rec mode code
+    pub char-placed : (i : GlyphInfo) → info ≡ Prepared.Info i → CharPrepared.Info i by ≡ prepared s codes mode metrics bounds code
     unfolding prepared
     char-placed i there = rw (← found-is, e, ← info-is, there)

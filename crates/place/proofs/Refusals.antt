@@ -5,9 +5,9 @@ use mathlib.Core.List.{List, [], _∷_}
 use Rattle.reads.specs.Said.{NumberedBy}
 use Rattle.reads.specs.declared.GlyphIndex.{GlyphIndex}
 use Rattle.reads.proofs.Numbers.{has-values, has-number, whichever, wider, one-more}
+use Rattle.tables.specs.declared.EncodingData.{EncodingData}
 use Rattle.tables.specs.declared.MetricsData.{MetricsData}
 use Rattle.tables.specs.declared.MetricsUnpacked.{MetricsUnpacked}
-use Rattle.tables.specs.declared.Record.{Record}
 use Rattle.modes.specs.declared.Mode.{Mode}
 use Rattle.lookup.specs.Served.{served, saidServed}
 use Rattle.lookup.specs.declared.Served.{Served}
@@ -16,8 +16,7 @@ use Rattle.lookup.proofs.Refusals.{served-refusals}
 use Rattle.metrics.specs.Measure.{metricsOf, saidMeasured}
 use Rattle.metrics.specs.declared.Measured.{Measured}
 use Rattle.metrics.proofs.Refusals.{metrics-of-refusals}
-use Rattle.place.specs.Bounds.{boundsOf}
-use Rattle.place.specs.Info.{placeable, boxed, withMetrics, infoOf, infoIn, placedBy, withGlyph, prepared, ofPlacing, saidPrepared, saidPlaced}
+use Rattle.place.specs.Info.{placeable, boxed, withMetrics, infoOf, placedBy, withGlyph, prepared, ofPlacing, saidPrepared, saidPlaced}
 use Rattle.place.specs.declared.Prepared.{Prepared}
 
 module _ (s : List ℕ) where
@@ -28,13 +27,14 @@ module _ (s : List ℕ) where
     by (Measured.Metrics m) h = whichever saidPrepared (placeable m (bounds .ascent)) has-values (has-number refl)
     by (Measured.Refused r) h = wider refl h
 
-  pub char-info-refusals : (rec : Record) (mode : Mode) (code : ℕ) → NumberedBy (9 ∷ ofPlacing) (saidPlaced (prepared s rec mode code))
+  pub char-info-refusals : (codes : EncodingData) (mode : Mode) (metrics : MetricsData) (bounds : MetricsUnpacked) (code : ℕ)
+      → NumberedBy (9 ∷ ofPlacing) (saidPlaced (prepared s codes mode metrics bounds code))
   unfolding prepared
-  char-info-refusals rec mode code = by (served s (rec .codes) mode code) (served-refusals s (rec .codes) mode code) where
+  char-info-refusals codes mode metrics bounds code = by (served s codes mode code) (served-refusals s codes mode code) where
     of : (p : Supplier) (x : Prepared) → NumberedBy ofPlacing (saidPrepared x) → NumberedBy (9 ∷ ofPlacing) (saidPlaced (placedBy p x))
     of p (Prepared.Info i) h = has-values
     of p (Prepared.Refused r) h = one-more h
 
-    by : (x : Served) → NumberedBy (9 ∷ []) (saidServed x) → NumberedBy (9 ∷ ofPlacing) (saidPlaced (withGlyph x (λ g. infoIn s rec g)))
-    by (Served.Glyph g p) h = of p (infoIn s rec g) (info-of-refusals (rec .metrics) (boundsOf rec) g)
+    by : (x : Served) → NumberedBy (9 ∷ []) (saidServed x) → NumberedBy (9 ∷ ofPlacing) (saidPlaced (withGlyph x (λ g. infoOf s metrics bounds g)))
+    by (Served.Glyph g p) h = of p (infoOf s metrics bounds g) (info-of-refusals metrics bounds g)
     by (Served.Refused r) h = wider refl h

@@ -9,6 +9,7 @@ use lib.Signed.{nonNeg, leZ}
 use Rattle.reads.specs.Said.{Said, refusal, says, refuses}
 use Rattle.reads.specs.declared.GlyphIndex.{GlyphIndex}
 use Rattle.tables.specs.Fits.{tested}
+use Rattle.tables.specs.declared.EncodingData.{EncodingData}
 use Rattle.tables.specs.declared.MetricsData.{MetricsData}
 use Rattle.tables.specs.declared.MetricsUnpacked.{MetricsUnpacked}
 use Rattle.tables.specs.declared.Record.{Record}
@@ -49,10 +50,6 @@ withMetrics (Measured.Refused r) rest = Prepared.Refused r
 unfoldable pub infoOf : List ℕ → MetricsData → MetricsUnpacked → GlyphIndex → Prepared
 infoOf s metrics bounds g = withMetrics (metricsOf s metrics (g .0)) (λ m. boxed g m (bounds .ascent))
 
--- the same by a record's tables and bounds
-abbrev pub infoIn : List ℕ → Record → GlyphIndex → Prepared
-infoIn s rec g = infoOf s (rec .metrics) (boundsOf rec) g
-
 -- "Placing [...] pass[es] the longer answer on": a placed glyph, and the code that supplied it
 abbrev pub placedBy : Supplier → Prepared → CharPrepared
 placedBy by (Prepared.Info i) = CharPrepared.Info i by
@@ -63,12 +60,19 @@ withGlyph (Served.Glyph g by) rest = placedBy by (rest g)
 withGlyph (Served.Refused r) rest = CharPrepared.Refused r
 
 -- a character placed: 9, 10, 11
-unfoldable pub prepared : List ℕ → Record → Mode → ℕ → CharPrepared
-prepared s rec mode code = withGlyph (served s (rec .codes) mode code) (λ g. infoIn s rec g)
+unfoldable pub prepared : List ℕ → EncodingData → Mode → MetricsData → MetricsUnpacked → ℕ → CharPrepared
+prepared s codes mode metrics bounds code = withGlyph (served s codes mode code) (λ g. infoOf s metrics bounds g)
+
+-- the same by a record's tables and bounds
+abbrev pub infoIn : List ℕ → Record → GlyphIndex → Prepared
+infoIn s rec g = infoOf s (rec .metrics) (boundsOf rec) g
+
+abbrev pub preparedIn : List ℕ → Record → Mode → ℕ → CharPrepared
+preparedIn s rec mode code = prepared s (rec .codes) mode (rec .metrics) (boundsOf rec) code
 
 -- `prep_char`: 6, 9, 10, 11
 unfoldable pub prepChar : List ℕ → Record → Mode → ℕ → CharPrepared
-prepChar s rec mode code = tested CharPrepared.Refused s rec (prepared s rec mode code)
+prepChar s rec mode code = tested CharPrepared.Refused s rec (preparedIn s rec mode code)
 
 -- the numbers of a glyph that cannot be placed
 abbrev pub ofPlacing : List ℕ

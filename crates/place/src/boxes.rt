@@ -16,6 +16,7 @@ use modes::Mode;
 use reads::CharCode;
 use reads::GlyphIndex;
 use reads::Refusal;
+use tables::EncodingData;
 use tables::MetricsData;
 use tables::MetricsUnpacked;
 use tables::Record;
@@ -85,14 +86,21 @@ pub fn info_of(s: &[u8], metrics: MetricsData, bounds: MetricsUnpacked, g: Glyph
 }
 
 // A character's box under the maximum bounds, or 9, 10, 11. Bytes past the end read as 0.
-pub fn char_info(s: &[u8], rec: Record, mode: Mode, code: CharCode) -> CharPrepared
-    ensures { λ r. ⌜ r ≡ prepared (now (s .entry)) rec mode (code .0) ⌝ }
+pub fn char_info(
+    s: &[u8],
+    codes: EncodingData,
+    mode: Mode,
+    metrics: MetricsData,
+    bounds: MetricsUnpacked,
+    code: CharCode,
+) -> CharPrepared
+    ensures { λ r. ⌜ r ≡ prepared (now (s .entry)) codes mode metrics bounds (code .0) ⌝ }
 {
-    let own = glyph_of(s, rec.codes, code);
-    let served = or_stand_in(s, rec.codes, mode, code, own);
+    let own = glyph_of(s, codes, code);
+    let served = or_stand_in(s, codes, mode, code, own);
     match served {
         Served::Glyph(g, by) => {
-            let info = info_of(s, rec.metrics, rec.accel.maxbounds, g);
+            let info = info_of(s, metrics, bounds, g);
             match info {
                 Prepared::Info(i) => CharPrepared::Info(i, by),
                 Prepared::Refused(r) => CharPrepared::Refused(r),
@@ -110,7 +118,14 @@ pub fn prep_char(bytes: &[u8], rec: Record, mode: Mode, code: CharCode) -> CharP
     ensures { λ r. ⌜ r ≡ prepChar (now (bytes .entry)) rec mode (code .0) ⌝ }
 {
     if record_fits(bytes.len(), rec) {
-        char_info(bytes, rec, mode, code)
+        char_info(
+            bytes,
+            rec.codes,
+            mode,
+            rec.metrics,
+            rec.accel.maxbounds,
+            code,
+        )
     } else {
         CharPrepared::Refused(Refusal {
             number: 6,

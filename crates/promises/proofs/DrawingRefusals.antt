@@ -23,7 +23,7 @@ use Rattle.bitmaps.specs.Unpack.{unscaled, wholeColumns, unpackedAt, saidUnpack
 use Rattle.bitmaps.specs.declared.Drawn.{Drawn}
 use Rattle.bitmaps.specs.declared.Unpacked.{Unpacked}
 use Rattle.place.specs.Bounds.{boundsOf, boundsHold}
-use Rattle.place.specs.Info.{infoIn, prepared, ofPlacing, saidPrepared, saidPlaced as saidPlacedChar}
+use Rattle.place.specs.Info.{infoIn, preparedIn, ofPlacing, saidPrepared, saidPlaced as saidPlacedChar}
 use Rattle.place.specs.declared.GlyphInfo.{GlyphInfo}
 use Rattle.place.specs.declared.CharPrepared.{CharPrepared}
 use Rattle.place.specs.declared.Prepared.{Prepared}
@@ -156,8 +156,8 @@ module _ (s : List ℕ) (rec : Record) where
     pub draw-char-refusals : Refusals s rec (6 ∷ 15 ∷ 9 ∷ (ofPlacing ++ ofDrawing)) (saidChar (drawChar s rec mode code len at))
     unfolding drawChar charReady
     draw-char-refusals =
-        guarded-refusals s rec saidWith CharPrepared.Refused (λ r. refl) (okPlace at) (prepared s rec mode code) refl
-        (λ fits. placed-char (prepared s rec mode code) (char-info-refusals s rec mode code))
+        guarded-refusals s rec saidWith CharPrepared.Refused (λ r. refl) (okPlace at) (preparedIn s rec mode code) refl
+        (λ fits. placed-char (preparedIn s rec mode code) (char-info-refusals s (rec .codes) mode (rec .metrics) (boundsOf rec) code))
 
   module _ (mode : Mode) (text : List ℕ) (len : ℕ) (lay : Layout) where
     -- what the tests before the first character say, with the rest

@@ -32,7 +32,7 @@ use Rattle.bitmaps.specs.Unpack.{saidUnpacked}
 use Rattle.bitmaps.specs.declared.Drawn.{Drawn}
 use Rattle.bitmaps.specs.declared.Unpacked.{Unpacked}
 use Rattle.place.specs.Bounds.{dimensions, saidSized}
-use Rattle.place.specs.Info.{prepared, saidPlaced}
+use Rattle.place.specs.Info.{preparedIn, saidPlaced}
 use Rattle.place.specs.declared.Sized.{Sized}
 use Rattle.place.specs.declared.GlyphInfo.{GlyphInfo}
 use Rattle.place.specs.declared.CharPrepared.{CharPrepared}
@@ -180,9 +180,9 @@ pub dimensions-says : (s : List ℕ) (rec : Record) → saysExtent (extentAnswer
 dimensions-says s rec = extent-read (dimensions s rec) (nought-answers refl (dimensions-refusals s rec .numbered))
 
 pub prep-char-says : (s : List ℕ) (rec : Record) (code mode : ℕ)
-    → let p = guarded CharPrepared.Refused s rec (isKnown mode) (prepared s rec (modeOf mode) code) in saysInfo (infoAnswer p) ≡ saidPlaced p
+    → let p = guarded CharPrepared.Refused s rec (isKnown mode) (preparedIn s rec (modeOf mode) code) in saysInfo (infoAnswer p) ≡ saidPlaced p
 prep-char-says s rec code mode =
-    let p = guarded CharPrepared.Refused s rec (isKnown mode) (prepared s rec (modeOf mode) code) in
+    let p = guarded CharPrepared.Refused s rec (isKnown mode) (preparedIn s rec (modeOf mode) code) in
     info-read p (nought-answers refl (thalluskin-prep-char-refusals s rec code mode .numbered))
 
 pub draw-bitmap-says : (s : List ℕ) (rec : Record) (glyph width height len : ℕ) (at : Place)

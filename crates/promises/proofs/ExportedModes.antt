@@ -23,7 +23,7 @@ use Rattle.bitmaps.specs.Limits.{okPlace}
 use Rattle.bitmaps.specs.Draw.{bitmapReady, drawBitmap}
 use Rattle.bitmaps.specs.declared.Drawn.{Drawn}
 use Rattle.bitmaps.specs.declared.Unpacked.{Unpacked}
-use Rattle.place.specs.Info.{prepared, prepChar}
+use Rattle.place.specs.Info.{preparedIn, prepChar}
 use Rattle.place.specs.declared.GlyphInfo.{GlyphInfo}
 use Rattle.place.specs.declared.CharPrepared.{CharPrepared}
 use Rattle.glyphs.specs.Glyph.{glyphReady, drawGlyph}
@@ -57,7 +57,7 @@ unfolding getGlyph
 glyph-known s rec code mode known = rw known refl
 
 pub prep-char-known : (s : List ℕ) (rec : Record) (code mode : ℕ) → isKnown mode ≡ true
-    → guarded CharPrepared.Refused s rec (isKnown mode) (prepared s rec (modeOf mode) code) ≡ prepChar s rec (modeOf mode) code
+    → guarded CharPrepared.Refused s rec (isKnown mode) (preparedIn s rec (modeOf mode) code) ≡ prepChar s rec (modeOf mode) code
 unfolding prepChar
 prep-char-known s rec code mode known = rw known refl
 

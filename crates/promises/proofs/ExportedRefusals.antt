@@ -9,7 +9,8 @@ use Rattle.modes.specs.Modes.{isKnown, modeOf}
 use Rattle.lookup.specs.Served.{served, saidServed}
 use Rattle.lookup.specs.declared.Served.{Served}
 use Rattle.lookup.proofs.Refusals.{served-refusals}
-use Rattle.place.specs.Info.{prepared, ofPlacing, saidPlaced}
+use Rattle.place.specs.Bounds.{boundsOf}
+use Rattle.place.specs.Info.{preparedIn, ofPlacing, saidPlaced}
 use Rattle.place.specs.declared.CharPrepared.{CharPrepared}
 use Rattle.place.proofs.Refusals.{char-info-refusals}
 use Rattle.promises.specs.Refusals.{Refusals}
@@ -22,6 +23,6 @@ module _ (s : List ℕ) (rec : Record) (code mode : ℕ) where
       guarded-refusals s rec saidServed Served.Refused (λ r. refl) (isKnown mode) _ refl (λ fits. served-refusals s (rec .codes) (modeOf mode) code)
 
   pub thalluskin-prep-char-refusals :
-      Refusals s rec (6 ∷ 15 ∷ 9 ∷ ofPlacing) (saidPlaced (guarded CharPrepared.Refused s rec (isKnown mode) (prepared s rec (modeOf mode) code)))
+      Refusals s rec (6 ∷ 15 ∷ 9 ∷ ofPlacing) (saidPlaced (guarded CharPrepared.Refused s rec (isKnown mode) (preparedIn s rec (modeOf mode) code)))
   thalluskin-prep-char-refusals =
-      guarded-refusals s rec saidPlaced CharPrepared.Refused (λ r. refl) (isKnown mode) _ refl (λ fits. char-info-refusals s rec (modeOf mode) code)
+      guarded-refusals s rec saidPlaced CharPrepared.Refused (λ r. refl) (isKnown mode) _ refl (λ fits. char-info-refusals s (rec .codes) (modeOf mode) (rec .metrics) (boundsOf rec) code)

@@ -73,7 +73,7 @@ module _ (s : List ℕ) (rec : Record) where
   pub prep-char-refusals : (mode : Mode) (code : ℕ) → Refusals s rec (6 ∷ 9 ∷ ofPlacing) (saidPlaced (prepChar s rec mode code))
   unfolding prepChar
   prep-char-refusals mode code =
-      tested-refusals s rec saidPlaced CharPrepared.Refused (λ r. refl) _ refl (λ fits. char-info-refusals s rec mode code)
+      tested-refusals s rec saidPlaced CharPrepared.Refused (λ r. refl) _ refl (λ fits. char-info-refusals s (rec .codes) mode (rec .metrics) (boundsOf rec) code)
 
   because-values : (code len : ℕ) (at : Place) (x : Served) → NumberedBy [] (saidTold (servedReason s rec code len at x))
   because-values code len at (Served.Glyph g by) = has-values

@@ -25,7 +25,7 @@ use Rattle.bitmaps.specs.Cut.{drawnRows}
 use Rattle.bitmaps.specs.Picture.{noBitmap, unreadable, rowsShort, pixelPast}
 use Rattle.bitmaps.specs.Draw.{shownAt}
 use Rattle.place.specs.Bounds.{boundsOf}
-use Rattle.place.specs.Info.{placeable, infoOf, infoIn, placedBy, prepared}
+use Rattle.place.specs.Info.{placeable, infoOf, infoIn, placedBy, prepared, preparedIn}
 use Rattle.place.specs.declared.GlyphInfo.{GlyphInfo}
 use Rattle.place.specs.declared.CharPrepared.{CharPrepared}
 use Rattle.glyphs.specs.Glyph.{placeOf, glyphDrawn}
@@ -87,11 +87,11 @@ module _ (s : List ℕ) (rec : Record) (mode : Mode) (code len : ℕ) (at : Plac
       choose P (ltb 65535 code) (λ t. refl)
       (λ t. choose P (firstOutside c code) (λ u. refl) (λ u. choose P (secondOutside c code) (λ v. refl) (λ v. refl)))
 
-  code-outcome : outcome (prepared s rec mode code) ≡ toldOutcome (reasonOf s rec mode code len at)
+  code-outcome : outcome (preparedIn s rec mode code) ≡ toldOutcome (reasonOf s rec mode code len at)
   unfolding reasonOf prepared
   code-outcome = by (served-or-9 s rec mode code) where
     by : (served s (rec .codes) mode code ≡ Served.Refused (refusal 9 0)) ⊎ ((g : ℕ) × (p : Supplier) × ShownBy s rec mode code g p)
-        → outcome (prepared s rec mode code) ≡ toldOutcome (reasonOf s rec mode code len at)
+        → outcome (preparedIn s rec mode code) ≡ toldOutcome (reasonOf s rec mode code len at)
     by (inl e) = rw e none-outcome
     by (inr (g, p, shown)) = rw (served-exactly s rec mode code g p .1 shown) (glyph-outcome p (record { 0 = g }))
 

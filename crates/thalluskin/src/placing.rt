@@ -18,7 +18,7 @@ use tables::guard;
 use tables::record_fits;
 ghost use mathlib.Core.Path.{_≡_};
 ghost use Rattle.place.specs.Bounds as bounds;
-ghost use Rattle.place.specs.Info.{prepared};
+ghost use Rattle.place.specs.Info.{preparedIn};
 ghost use Rattle.tables.specs.Fits.{guarded};
 ghost use Rattle.lookup.specs.Served.{itself};
 ghost use Rattle.modes.specs.Modes.{isKnown, modeOf};
@@ -100,11 +100,18 @@ pub extern "C" fn thalluskin_prep_char(
     code: CharCode,
     mode: u32,
 ) -> InfoAnswer
-    ensures { λ r. ⌜ r ≡ infoAnswer (guarded CharPrepared.Refused (now (bytes .entry)) rec (isKnown mode) (prepared (now (bytes .entry)) rec (modeOf mode) (code .0))) ⌝ }
+    ensures { λ r. ⌜ r ≡ infoAnswer (guarded CharPrepared.Refused (now (bytes .entry)) rec (isKnown mode) (preparedIn (now (bytes .entry)) rec (modeOf mode) (code .0))) ⌝ }
 {
     let permit = guard(record_fits(bytes.len(), rec), is_known(mode));
     match permit {
-        Permit::Given => info_answer(char_info(bytes, rec, mode_of(mode), code)),
+        Permit::Given => info_answer(char_info(
+            bytes,
+            rec.codes,
+            mode_of(mode),
+            rec.metrics,
+            rec.accel.maxbounds,
+            code,
+        )),
         Permit::Refused(r) => info_answer(CharPrepared::Refused(r)),
     }
 }
