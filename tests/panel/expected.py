@@ -1,7 +1,7 @@
 #!/usr/bin/env python3
 """Holds crates/panel/stdout, which the program must write, to what the model of document 01 draws for
-crates/panel/stdin, a reading and a second line in the meter's font, and to what that font lacks of them. The rule for
-that, which tests/command asks too, is held to cases that are written out.
+crates/panel/stdin, a reading and a second line in the meter's font, and to what that font lacks of them. The rules for
+that and for what the default character shows, which tests/command asks too, are held to cases that are written out.
 
 With --write the input and the output are stored anew."""
 import os
@@ -15,6 +15,7 @@ import model  # noqa: E402
 import stored  # noqa: E402
 from common import fail  # noqa: E402
 from pcf.font_f import two_digits  # noqa: E402
+from pcf.rewriting import with_default  # noqa: E402
 
 BLOCKS, PICTURE = 0, 1
 WIDTH, HEIGHT = 72, 21
@@ -22,6 +23,7 @@ TEXT = "12 345 kWh\n3.07 m³  21 °C".encode()
 # the same page: what is more has no letter there, characters of one to four bytes
 LACKING = "12ü 345 kWh\r\n3.07 m³ €😀 21 °C\0\x1b".encode()
 NO_WRAP = 2 ** 64 - 1
+DEFAULT = model.Mode(default=True)
 
 # codes that are written as such: nothing would be seen of the character, or a terminal might obey it
 UNSEEN = [(0, 0x20), (0x7F, 0xA0), (0xAD, 0xAD), (0x34F, 0x34F), (0x61C, 0x61C), (0x115F, 0x1160), (0x1680, 0x1680),
@@ -51,17 +53,59 @@ OF_F = [
 ]
 
 
-def request(kind, width, height, scale, wrap, text, font):
+# in default mode: a text, how many characters the default one shows, and what is named all the same: with the meter's
+# font, whose default character is the question mark
+DEFAULT_OF_METER = [
+    ("", 0, []),
+    ("12 345 kWh\r\n3.07 m³", 0, []),
+    ("Grüße", 2, []),
+    ("What?", 0, []),
+    ("é?è", 2, []),
+    ("ä\r\nö\n\n\rü", 3, []),
+    ("€\uffff\U00010000😀\U0010FFFF", 5, []),
+    ("\0\t\x1b\x7f\xa0\u200b\U000e0041", 7, []),
+]
+
+# with font F, whose default character is 0
+DEFAULT_OF_F = [
+    ("01", 0, []),
+    ("1a", 1, []),
+    ("a b😀", 4, []),
+    ("\r\n\n\r", 0, []),
+    ("\r2\n0\r\n2", 2, []),
+]
+
+# and with font F and another default code: one outside its bounds, below, above and far above them, has no glyph, and 1
+# has one
+DEFAULT_OF_OTHERS = [
+    (0x00, "0\0a1", 0, ["U+0000", "a"]),
+    (0x0A, "0\n1\ra", 0, ["a"]),
+    (0x2F, "/01/", 0, ["/", "/"]),
+    (0x32, "02\r\n😀", 0, ["2", "😀"]),
+    (0xFFFF, "\uffff1\U0010FFFF", 0, ["\uffff", "\U0010FFFF"]),
+    (0x31, "12\n3/", 3, []),
+]
+
+
+def default_cases():
+    """the font, the text, how many characters its default one shows, and what it lacks even so"""
+    f = two_digits()
+    yield from ((meter.stored_font(), *case) for case in DEFAULT_OF_METER)
+    yield from ((f, *case) for case in DEFAULT_OF_F)
+    yield from ((with_default(f, default), *case) for default, *case in DEFAULT_OF_OTHERS)
+
+
+def request(kind, width, height, scale, wrap, mode, text, font):
     """the program's input; `wrap` is a number or None"""
     end = NO_WRAP if wrap is None else wrap
-    numbers = [kind, width, height, scale, end % 2 ** 32, end // 2 ** 32, len(text)]
+    numbers = [kind, width, height, scale, end % 2 ** 32, end // 2 ** 32, mode, len(text)]
     return b"".join(n.to_bytes(4, "little") for n in numbers) + text + font
 
 
-def drawn(font, width, height, scale, wrap, text):
+def drawn(font, width, height, scale, wrap, text, mode=model.PLAIN):
     """the height, the rows dropped, and the rows of pixels; or Refused"""
     buf = [0] * (width * height)
-    (high, dropped), buf = model.draw_string(font, model.vet(font), model.PLAIN, text, buf, 0, wrap, width, scale, 1)
+    (high, dropped), buf = model.draw_string(font, model.vet(font), mode, text, buf, 0, wrap, width, scale, 1)
     return high, dropped, [buf[i:i + width] for i in range(0, len(buf), width)]
 
 
@@ -73,11 +117,25 @@ def half_blocks(rows):
     return "".join(line + "\n" for line in lines).encode()
 
 
-def skipped(font, text):
-    """what names each character that the font lacks, in the text's order; return and newline need no glyph"""
+def looked_up(font, text, mode):
+    """each character of a text but return and newline, and what the lookup gives for it"""
     rec = model.vet(font)
-    lacking = [c for c in text.decode() if c not in "\r\n" and model.lookup(font, rec, ord(c)) is None]
+    return [(c, model.serve(font, rec, mode, ord(c))) for c in text.decode() if c not in "\r\n"]
+
+
+def skipped(font, text, mode=model.PLAIN):
+    """what names each character that the font lacks, in the text's order"""
+    lacking = [c for c, served in looked_up(font, text, mode) if served is None]
     return ["U+%04X" % ord(c) if any(low <= ord(c) <= high for low, high in UNSEEN) else c for c in lacking]
+
+
+def shown_by_default(font, text, mode):
+    """how many characters the default one shows"""
+    return sum(served is not None and served[2] for _, served in looked_up(font, text, mode))
+
+
+def default_of(font):
+    return "U+%04X" % model.load(font)["codes"]["default"]
 
 
 def main():
@@ -86,16 +144,21 @@ def main():
         for text, names in cases:
             if skipped(of, text.encode()) != names:
                 fail("of %r is skipped %s" % (text, skipped(of, text.encode())))
+    for of, text, count, names in default_cases():
+        got = shown_by_default(of, text.encode(), DEFAULT), skipped(of, text.encode(), DEFAULT)
+        if got != (count, names):
+            fail("of %r the default shows, and is skipped, %s" % (text, got))
     wrap = WIDTH + 1
     high, dropped, rows = drawn(font, WIDTH, HEIGHT, 1, wrap, LACKING)
-    said = b"dropped %d height %d\n" % (dropped, high) + " ".join(["skipped", *skipped(font, LACKING)]).encode() + b"\n"
+    lines = ["dropped %d height %d" % (dropped, high), "default 0 " + default_of(font),
+             " ".join(["skipped", *skipped(font, LACKING)])]
     want = {
-        ("panel", "stdin"): request(BLOCKS, WIDTH, HEIGHT, 1, wrap, LACKING, font),
-        ("panel", "stdout"): half_blocks(rows) + said,
+        ("panel", "stdin"): request(BLOCKS, WIDTH, HEIGHT, 1, wrap, 0, LACKING, font),
+        ("panel", "stdout"): half_blocks(rows) + "".join(line + "\n" for line in lines).encode(),
     }
     stored.hold(want, sys.argv[1:] == ["--write"])
-    print("panel: %d pixels of %d set, as the model draws them; %d texts of which characters are skipped"
-          % (sum(map(sum, rows)), WIDTH * HEIGHT, len(OF_METER + OF_F)))
+    print("panel: %d pixels of %d set, as the model draws them; %d texts of which characters are skipped, and %d in "
+          "default mode" % (sum(map(sum, rows)), WIDTH * HEIGHT, len(OF_METER + OF_F), len([*default_cases()])))
 
 
 if __name__ == "__main__":

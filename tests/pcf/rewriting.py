@@ -1,7 +1,9 @@
 """Changes a font's bytes, or a table that is to stand in a font."""
+import struct
+
 from pcf import orders, reading
 from pcf.numbers import BIG, COMPRESSED, word
-from pcf.tables import BITMAPS, METRICS, PADS, bitmaps, font, row_stride
+from pcf.tables import BITMAPS, CODES, METRICS, PADS, bitmaps, font, row_stride
 
 LAST_BIT = 31  # of a format word; it means nothing
 
@@ -38,6 +40,13 @@ def with_own_format_bit(b, number, bit):
     """and of the one that the table itself has"""
     form, _ = reading.own_format(b[reading.directory(b)[number][3]:])
     return with_own_format(b, number, form ^ 1 << bit)
+
+
+def with_default(b, code):
+    """another default code"""
+    start = next(start for kind, _, _, start in reading.directory(b) if kind == CODES)
+    _, sign = reading.own_format(b[start:])
+    return with_bytes(b, start + 12, struct.pack(sign + "H", code))
 
 
 def askew(table, bits=BIG):

@@ -1,4 +1,4 @@
 pub mod Asked
 pub mod Blocks
 pub mod Picture
-pub mod Skipped
+pub mod Served

@@ -4,7 +4,7 @@ mod asked;
 mod blocks;
 mod lines;
 mod picture;
-mod skipped;
+mod served;
 
 use crate::asked::Asked;
 use crate::asked::HEAD;
@@ -13,10 +13,13 @@ use crate::asked::Request;
 use crate::asked::asked_of;
 use crate::blocks::print_blocks;
 use crate::picture::print_picture;
-use crate::skipped::print_skipped;
+use crate::served::default_count;
+use crate::served::print_count;
+use crate::served::print_skipped;
 use console::refusal_of;
 use console::say;
 use console::say_with;
+use modes::mode_of;
 use reads::Refusal;
 use tables::EncodingData;
 use tables::Record;
@@ -30,7 +33,7 @@ ghost use lib.ListN.{length};
 ghost use Rattle.panel.specs.Asked.{Sized};
 
 // 65,536 bytes of a text, which is one more than the library takes, and 573,440 of a font.
-const MOST: usize = 28 + 65536 + 573440;
+const MOST: usize = 32 + 65536 + 573440;
 
 const ROOM: usize = MOST + 1;
 
@@ -49,7 +52,18 @@ enum Shown {
 fn text_shown(r: Request, rec: Record, text: &[u8], font: &[u8], panel: &mut [u32]) -> Shown {
     let wrap = r.wrap;
     let codes = rec.codes;
-    let drawn = draw_string(font, rec, text, panel, 0, wrap, r.width, r.scale, COLOUR);
+    let drawn = draw_string(
+        font,
+        rec,
+        mode_of(r.mode),
+        text,
+        panel,
+        0,
+        wrap,
+        r.width,
+        r.scale,
+        COLOUR,
+    );
     match drawn {
         TextDrawn::Done(rows) => Shown::Done(rows, codes),
         TextDrawn::Refused(no) => Shown::Text(no),
@@ -63,7 +77,8 @@ fn font_shown(r: Request, text: &[u8], font: &[u8], panel: &mut [u32]) -> Shown 
     }
 }
 
-// The panel; after half blocks, what the text lost and how high it is, and what the font lacks.
+// The panel; after half blocks, what the text lost and how high it is, how many characters the default code shows, and
+// what the font lacks.
 fn print_panel(
     r: Request,
     text: &[u8],
@@ -81,7 +96,9 @@ fn print_panel(
     }
     print_blocks(pixels, r.width, out);
     say_with(b"dropped # height #\n", &[rows.dropped, rows.height]);
-    print_skipped(text, font, codes);
+    let mode = mode_of(r.mode);
+    print_count(default_count(text, font, codes, mode), codes);
+    print_skipped(text, font, codes, mode);
 }
 
 fn with_font(r: Request, text: &[u8], font: &[u8], panel: &mut [u32], out: &mut [u8])
@@ -123,7 +140,7 @@ fn clear() -> [u32; PIXELS]
 
 // Room for the input and a byte more. Its length comes from a law: to count so far passes the prover's stack.
 fn room() -> [u8; ROOM]
-    ensures { λ r. ⌜ 639005 ≡ length r ⌝ }
+    ensures { λ r. ⌜ 639009 ≡ length r ⌝ }
 {
     [0; ROOM]
 }

@@ -13,10 +13,10 @@ use Rattle.panel.proofs.show.Statement.{statement}
 use Rattle.panel.proofs.show.Tie as tie
 
 module _ (n : ℕ) (a : Asked) (r : Request) (e : a ≡ Asked.For r) (asks : Printable n a) where
-  printable : Sized r × (r .len ≤ 65536) × (28 + r .text ≤ n)
+  printable : Sized r × (r .len ≤ 65536) × (32 + r .text ≤ n)
   printable = rw e at asks
 
-  text-within : 28 + r .text ≤ n
+  text-within : 32 + r .text ≤ n
   text-within = printable .2
 
   sized : Sized r

@@ -1,5 +1,7 @@
 use Prim.Native.Nat.{ℕ, _+_, _≤_, _<_}
-use mathlib.Core.Path.{_≡_}
+use mathlib.Core.Path.{_≡_, sym, _∙_}
+use mathlib.Core.Bool.{Bool, true, false, not}
+use Rattle.modes.specs.Modes.{isKnown}
 use Rattle.panel.specs.declared.asked.Request.{Request}
 use Rattle.panel.specs.declared.asked.Asked.{Asked}
 use borrow.Author.Tests.{lt-ltb, le-ltb, eq-eqb, ne-eqb}
@@ -34,13 +36,18 @@ module _ (n : ℕ) (r : Request) where
           too-many h = simp (lt-ltb, le-ltb, ne-eqb)
 
           module _ (few : r .len ≤ 65536) where
-            text-beyond : n < 28 + r .text → Asked.Bad ≡ judged n r
+            unknown-mode : (known : Bool) → not known ≡ true → known ≡ isKnown (r .mode) → Asked.Bad ≡ judged n r
             unfolding judged
-            text-beyond h = simp (lt-ltb, le-ltb, ne-eqb)
+            unknown-mode known h is = simp (le-ltb, ne-eqb, ← is, h)
 
-            judged-for : 28 + r .text ≤ n → Asked.For r ≡ judged n r
-            unfolding judged
-            judged-for h = simp (le-ltb, ne-eqb)
+            module _ (known : Bool) (h : not known ≡ false) (is : known ≡ isKnown (r .mode)) where
+              text-beyond : n < 32 + r .text → Asked.Bad ≡ judged n r
+              unfolding judged
+              text-beyond far = simp (lt-ltb, le-ltb, ne-eqb, ← is, h)
+
+              judged-for : 32 + r .text ≤ n → Asked.For r ≡ judged n r
+              unfolding judged
+              judged-for near = simp (le-ltb, ne-eqb, ← is, h)
 
 pub judged-spec : {M : Type 1} → statement M
 judged-spec =
@@ -51,7 +58,9 @@ judged-spec =
     (λ c. search (too-wide, tt {0}))  -- returns-3
     (λ c. search (no-height, tt {0}))  -- returns-4
     (λ c. search (too-many, tt {0}))  -- returns-5
-    (λ c. search needs)  -- cast-if6
-    (λ c. search needs)  -- add-if6
-    (λ c. search (text-beyond, tt {0}))  -- returns-6
-    (λ c. search (judged-for, needs)))  -- returns-7
+    (λ c κs. search needs)  -- is-known-requires
+    (λ c. search (unknown-mode, tt {0}))  -- returns-6
+    (λ c. search needs)  -- cast-if7
+    (λ c. search needs)  -- add-if7
+    (λ c. search (text-beyond, tt {0}))  -- returns-7
+    (λ c. search (judged-for, needs)))  -- returns-8

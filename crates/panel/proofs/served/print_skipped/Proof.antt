@@ -9,8 +9,8 @@ use Rattle.utf8.specs.Step.{stepAt}
 use Rattle.utf8.specs.declared.Step.{Step}
 use Rattle.utf8.proofs.Walk.{step-within, step-less}
 use borrow.Author.Needs.{needs}
-use Rattle.panel.proofs.skipped.print_skipped.Statement.{statement}
-use Rattle.panel.proofs.skipped.print_skipped.Tie as tie
+use Rattle.panel.proofs.served.print_skipped.Statement.{statement}
+use Rattle.panel.proofs.served.print_skipped.Tie as tie
 
 module _ (text : List ℕ) (i : ℕ) (here : Step) (code : CharCode) (next : ℕ) (here-is : here ≡ stepAt text i) (read : here ≡ Step.Char code next) where
   ends-after : i ≤ next
@@ -20,10 +20,10 @@ module _ (text : List ℕ) (i : ℕ) (here : Step) (code : CharCode) (next : ℕ
   ends-within = step-within text i code next (sym here-is ∙ read) .1
 
 abbrev Inv-loop : tie.InvT-loop
-Inv-loop text font codes i₀ t9 i = Unit {0}
+Inv-loop text font codes mode i₀ t9 i = Unit {0}
 
 abbrev μ-loop : tie.MeasureT-loop
-μ-loop text font codes i₀ t9 i = length text - i
+μ-loop text font codes mode i₀ t9 i = length text - i
 
 pub print-skipped-spec : {M : Type 1} → statement M
 print-skipped-spec =
@@ -36,7 +36,7 @@ print-skipped-spec =
     (λ c. tt)  -- loop-holds
     (λ c κs. search needs)  -- step-at-requires
     (λ c. search needs)  -- enum-known-here
-    (λ c κs. search needs)  -- glyph-of-requires
+    (λ c κs. search needs)  -- serve-requires
     (λ c κs. search needs)  -- lacked-requires
     (λ c. search ends-after)  -- sub-print-one
     (λ c. search ends-after)  -- part-print-one-start
