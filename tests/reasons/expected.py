@@ -19,9 +19,9 @@ CHARACTERS, CODE = 0, 1
 WIDTH, HEIGHT, START, SCALE = 12, 14, 10, 2  # near a line's right end, which some characters pass
 
 
-def request(kind, code, width, height, start, stride, scale, text, font):
+def request(kind, code, width, height, start, stride, scale, mode, text, font):
     """the program's input"""
-    numbers = [kind, code, width, height, start, stride, scale, len(text)]
+    numbers = [kind, code, width, height, start, stride, scale, mode, len(text)]
     return b"".join(n.to_bytes(4, "little") for n in numbers) + text + font
 
 
@@ -37,13 +37,13 @@ def vetting(font):
 def main():
     font = fonts.every()
     at = lines.Place(WIDTH * HEIGHT, START, WIDTH, SCALE)
-    told = lines.of_text(font, model.load(font), fonts.TEXT, at)
+    told = lines.of_text(font, model.load(font), model.PLAIN, fonts.TEXT, at)
     lacking = set(model.REASONS) - {number for number, _ in told}
     if lacking != {13}:
         fail("the text has no character for the reasons %s" % sorted(lacking))
     text = fonts.TEXT.encode()
     want = {
-        ("reasons", "stdin"): request(CHARACTERS, 0, WIDTH, HEIGHT, START, WIDTH, SCALE, text, font),
+        ("reasons", "stdin"): request(CHARACTERS, 0, WIDTH, HEIGHT, START, WIDTH, SCALE, 0, text, font),
         ("reasons", "stdout"): (vetting(font) + "".join(line for _, line in told) + "not all drawn\n").encode(),
     }
     stored.hold(want, sys.argv[1:] == ["--write"])

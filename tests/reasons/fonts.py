@@ -32,7 +32,7 @@ ENTRIES = [*range(len(GLYPHS)), WITHOUT_METRICS, NO_GLYPH] + [0] + [NO_GLYPH] * 
 TEXT = "".join(map(chr, range(0x30, 0x40))) + "İĿ \x7fĀ€\ufeff😀\r\n"
 
 
-def every():
+def every(default=0x30):
     """codes of two bytes, and for each reason but 13 a character"""
     rows = [rows for _, rows in GLYPHS if rows is not None]
     offsets = [sum(map(len, rows[:k])) for k in range(len(rows))]
@@ -44,7 +44,7 @@ def every():
         accelerators(0, [0] * 8, 3, 0, 0, GLYPHS[0][0], (0, 3, 3, TOP_LINE, 0, 0)),
         wide_metrics(0, [measure for measure, _ in GLYPHS]),
         bitmaps(TOP, offsets, [len(data) * pad for pad in PADS], data),
-        codes(0, SECOND_BYTES, FIRST_BYTES, 0x30, ENTRIES),
+        codes(0, SECOND_BYTES, FIRST_BYTES, default, ENTRIES),
         names(0, starts, strings),
     ], padding_counts=False)
 

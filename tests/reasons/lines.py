@@ -119,24 +119,30 @@ def of_picture(number, info, at, cut):
     return "blank, as a space is: " + ("its bitmap is %s" if nothing else "none of its %s is set") % size
 
 
-def said(b, rec, code, at):
-    """the reason's number, and its words"""
-    number, cut, _, _ = model.why(b, rec, model.PLAIN, code, *at)
+def no_default(mode, default, code):
+    """what default mode adds to 31 to 34"""
+    if not mode.default:
+        return ""
+    if default == code:
+        return "; it is the default character itself"
+    return "; the default character U+%04X has no glyph either" % default
+
+
+def of_code(b, rec, mode, code, at):
+    """the reason's number, and the line of a code: of whom it speaks, and the reason's words"""
+    number, cut, by, is_default = model.why(b, rec, mode, code, *at)
+    head = character(code) + (", by the default character " + character(by) if is_default else "")
+    g = model.lookup(b, rec, by)
     if number in (31, 32, 33, 34):
-        return number, of_codes(number, rec["codes"], code)
-    g = model.lookup(b, rec, code)
-    if number in (10, 11, 12, 13, 14):
-        return number, "refusal %d: %s" % (number, of_font(number, b, rec, g))
-    return number, of_picture(number, place_glyph(b, rec, g), at, cut)
+        words = of_codes(number, rec["codes"], code) + no_default(mode, rec["codes"]["default"], code)
+    elif number in (10, 11, 12, 13, 14):
+        words = "refusal %d: %s" % (number, of_font(number, b, rec, g))
+    else:
+        words = of_picture(number, place_glyph(b, rec, g), at, cut)
+    return number, "%s: %s\n" % (head, words)
 
 
-def of_code(b, rec, code, at):
-    """the reason's number, and the line of a code"""
-    number, words = said(b, rec, code, at)
-    return number, "%s: %s\n" % (character(code), words)
-
-
-def of_text(b, rec, text, at):
+def of_text(b, rec, mode, text, at):
     """the same of each character; of one that is not looked up the number is that of a drawn one"""
     return [(DRAWN, "%s: %s\n" % (character(ord(c)), NOT_LOOKED_UP[ord(c)])) if ord(c) in NOT_LOOKED_UP
-            else of_code(b, rec, ord(c), at) for c in text]
+            else of_code(b, rec, mode, ord(c), at) for c in text]

@@ -1,17 +1,18 @@
-// What the input asks. It begins with eight numbers of four bytes, the least significant first: 0 for the characters
-// of a text or 1 for one code, that code, the panel's width and height, the start, the stride, the scale, and the
+// What the input asks. It begins with nine numbers of four bytes, the least significant first: 0 for the characters of a
+// text or 1 for one code, that code, the panel's width and height, the start, the stride, the scale, the mode, and the
 // length of the text. The text follows, and then the font's bytes to the end.
+use modes::is_known;
 use reads::CharCode;
 use reads::u32_at;
 ghost use mathlib.Core.Path.{_≡_};
 ghost use lib.ListN.{length};
 ghost use Rattle.reasons.specs.Asked.{requestOf, judged, askedOf, Inside};
 
-pub(crate) const HEAD: usize = 32;
+pub(crate) const HEAD: usize = 36;
 
 pub(crate) const CODE: u32 = 1;
 
-// `len` is width × height, `text` the text's length.
+// `len` is width × height, `mode` the number that `modes::mode_of` takes, `text` the text's length.
 pub(crate) struct Request {
     pub(crate) kind: u32,
     pub(crate) code: CharCode,
@@ -19,6 +20,7 @@ pub(crate) struct Request {
     pub(crate) start: usize,
     pub(crate) stride: usize,
     pub(crate) scale: usize,
+    pub(crate) mode: u32,
     pub(crate) text: u32,
 }
 
@@ -41,16 +43,21 @@ fn request_of(input: &[u8]) -> Request
         start: u32_at(input, 16, 0, false) as usize,
         stride: u32_at(input, 20, 0, false) as usize,
         scale: u32_at(input, 24, 0, false) as usize,
-        text: u32_at(input, 28, 0, false),
+        mode: u32_at(input, 28, 0, false),
+        text: u32_at(input, 32, 0, false),
     }
 }
 
-// Whether an input of `len` bytes can ask for this: a known kind, and a text that lies in the input.
+// Whether an input of `len` bytes can ask for this: a known kind, a known mode, and a text that lies in the
+// input.
 fn judged(len: usize, r: Request) -> Asked
     ensures { λ a. ⌜ a ≡ judged len r ⌝ }
     ensures { λ a. ⌜ Inside len a ⌝ }
 {
     if CODE < r.kind {
+        return Asked::Bad;
+    }
+    if !is_known(r.mode) {
         return Asked::Bad;
     }
     if len < HEAD + r.text as usize {

@@ -43,12 +43,11 @@ fn say_character(code: u32) {
     );
 }
 
-// As `U+00E9 é: ` or `U+0020: `.
+// As `U+00E9 é` or `U+0020`.
 pub(crate) fn print_character(code: u32) {
     say_code(code);
     if is_seen(code) {
         say(b" ");
         say_character(code);
     }
-    say(b": ");
 }

@@ -12,6 +12,8 @@ use lookup::glyph_of;
 use lookup::one_byte;
 use metrics::Measured;
 use metrics::metrics_of;
+use modes::Mode;
+use modes::mode_of;
 use place::Prepared;
 use place::boxed;
 use reads::CharCode;
@@ -129,14 +131,37 @@ fn say_glyph(r: Request, font: &[u8], rec: Record, g: GlyphIndex, reason: Reason
     }
 }
 
-pub(crate) fn say_reason(r: Request, font: &[u8], rec: Record, code: CharCode, reason: Reason) {
+// The reasons of a code without a glyph.
+fn say_code_reason(c: EncodingData, code: u32, reason: Reason) {
     match reason {
         Reason::AboveCodes => say(b"no font of this format has a glyph above U+FFFF"),
-        Reason::FirstByte => say_bytes(b"first", rec.codes.low1, rec.codes.high1, code.0 / 256),
-        Reason::SecondByte => say_second(rec.codes, code.0),
-        _ => match glyph_of(font, rec.codes, code) {
-            Found::Glyph(g) => say_glyph(r, font, rec, g, reason),
-            Found::Refused(_) => say(b"the font's code table covers it, and has no glyph there"),
-        },
+        Reason::FirstByte => say_bytes(b"first", c.low1, c.high1, code / 256),
+        Reason::SecondByte => say_second(c, code),
+        _ => say(b"the font's code table covers it, and has no glyph there"),
+    }
+}
+
+// Adds, in default mode, that the default code does not help a code without a glyph.
+fn say_no_default(mode: Mode, default: u16, code: u32) {
+    if !mode.default {
+        return;
+    }
+    if default as u32 == code {
+        say(b"; it is the default character itself");
+        return;
+    }
+    say(b"; the default character ");
+    say_code(default as u32);
+    say(b" has no glyph either");
+}
+
+// Of the code that the reason speaks of, which has the glyph if there is one.
+pub(crate) fn say_reason(r: Request, font: &[u8], rec: Record, code: CharCode, reason: Reason) {
+    match glyph_of(font, rec.codes, code) {
+        Found::Glyph(g) => say_glyph(r, font, rec, g, reason),
+        Found::Refused(_) => {
+            say_code_reason(rec.codes, code.0, reason);
+            say_no_default(mode_of(r.mode), rec.codes.default, code.0);
+        }
     }
 }

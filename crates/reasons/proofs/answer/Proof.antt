@@ -8,7 +8,7 @@ use borrow.Author.Needs.{needs}
 use Rattle.reasons.proofs.answer.Statement.{statement}
 use Rattle.reasons.proofs.answer.Tie as tie
 
-text-within : (n : ℕ) (a : Asked) (r : Request) → a ≡ Asked.For r → Inside n a → 32 + r .text ≤ n
+text-within : (n : ℕ) (a : Asked) (r : Request) → a ≡ Asked.For r → Inside n a → 36 + r .text ≤ n
 text-within n a r e inside = rw e at inside
 
 pub answer-spec : {M : Type 1} → statement M

@@ -8,4 +8,4 @@ pub room-spec : {M : Type 1} → statement M
 room-spec =
     tie.close
     (tie.spec
-    (λ c. sym (length-replicate {0} {A = ℕ} 639009 0)))  -- returns
+    (λ c. sym (length-replicate {0} {A = ℕ} 639013 0)))  -- returns

@@ -15,13 +15,22 @@ use Rattle.reasons.proofs.asked.request_of.Tie as tie
 product-fits : (a b : ℕ) → a < 4294967296 → b < 4294967296 → Fits w64 (a * b)
 product-fits a b h k = omega (arith, within a 4294967295 b 4294967295 (omega arith) (omega arith))
 
-of-numbers : (s : List ℕ) (kind code width height start stride scale text : ℕ)
+of-numbers : (s : List ℕ) (kind code width height start stride scale mode text : ℕ)
     → kind ≡ numberIn s 0 → code ≡ numberIn s 1 → width ≡ numberIn s 2 → height ≡ numberIn s 3
-    → start ≡ numberIn s 4 → stride ≡ numberIn s 5 → scale ≡ numberIn s 6 → text ≡ numberIn s 7
+    → start ≡ numberIn s 4 → stride ≡ numberIn s 5 → scale ≡ numberIn s 6 → mode ≡ numberIn s 7 → text ≡ numberIn s 8
     → _≡_ {A = Request}
-    (record { kind = kind; code = record { 0 = code }; len = width * height; start = start; stride = stride; scale = scale; text = text })
+    (record {
+      kind = kind;
+      code = record { 0 = code };
+      len = width * height;
+      start = start;
+      stride = stride;
+      scale = scale;
+      mode = mode;
+      text = text;
+    })
     (requestOf s)
-of-numbers s kind code width height start stride scale text k c w h a b d t = rw (k, c, w, h, a, b, d, t)
+of-numbers s kind code width height start stride scale mode text k c w h a b d m t = rw (k, c, w, h, a, b, d, m, t)
 
 pub request-of-spec : {M : Type 1} → statement M
 request-of-spec =
@@ -41,4 +50,5 @@ request-of-spec =
     (λ c κs. search needs)  -- u32-at-requires-7
     (λ c. search needs)  -- cast-t12
     (λ c κs. search needs)  -- u32-at-requires-8
+    (λ c κs. search needs)  -- u32-at-requires-9
     (λ c. search of-numbers))  -- returns
