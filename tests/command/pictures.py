@@ -44,7 +44,7 @@ def pictures(folder):
         rows, dropped = drawn_by_model(font, text.encode(), width, height, scale, "")
         got = run("show", text, "--width=%d" % width, "--height=%d" % height, "--scale=%d" % scale, "--pbm",
                   "a folder/a picture.pbm", folder=folder)
-        expect("a picture beside the panel", got, 0, panel_of(rows, dropped, panel.skipped(font, text.encode())), None)
+        expect("a picture beside the panel", got, 0, panel_of(rows, dropped, font, text.encode()), None)
         if read_pbm(os.path.join(folder, "a folder/a picture.pbm")) != rows:
             fail("the picture of %s is not the panel" % text)
     rows, _ = drawn_by_model(font, panel.TEXT, panel.WIDTH, panel.HEIGHT, 1, "")

@@ -103,6 +103,10 @@ def not_asked(folder):
     refused("two texts", "show takes one text", "12", "345")
     refused("an unknown option", "show has no option '--size'", "--size", "3", "12")
     refused("an unknown option alone", "show has no option '--size'", "--size")
+    refused("a value for --default", "--default takes no value", "12", "--default=yes")
+    refused("an empty value for --default", "--default takes no value", "--default=", "12")
+    refused("a text behind --default and one more", "show takes one text", "--default", "12", "345")
+    refused("no text, but --default", "show takes a text", "--default")
     refused("an option without its value", "--scale takes a value", "12", "--scale")
     for option in ("--scale", "--width", "--height", "--wrap"):
         for value in ("", "x", "1x", "-1", "1.5", "0x10", "1 2"):

@@ -1,4 +1,5 @@
-"""Texts shown on panels of many sizes."""
+"""Texts shown on panels of many sizes, plainly and in default mode."""
+import model
 from command.script import expect, run, store
 from common import fail
 from panel import expected as panel
@@ -9,32 +10,40 @@ from pcf.rewriting import reordered
 MOST_SHOWN = 573440  # the bytes that a font may have to show a text
 
 
-def panel_of(rows, dropped, skipped):
+def panel_of(rows, dropped, font, text, mode=model.PLAIN):
     """what show prints"""
     words = {0: "no row dropped", 1: "1 row dropped: the bottom is cut"}
     last = words.get(dropped, "%d rows dropped: the bottom is cut" % dropped) + "\n"
+    shown, skipped = panel.by_default(font, text, mode), panel.skipped(font, text, mode)
+    if shown:
+        last += "%d shown by the default character %s: %s\n" % (len(shown), panel.default_of(font), " ".join(shown))
     if skipped:
         last += "%d skipped: %s\n" % (len(skipped), " ".join(skipped))
     return panel.half_blocks(rows) + last.encode()
 
 
-def drawn_by_model(font, text, width, height, scale, wrap):
+def drawn_by_model(font, text, width, height, scale, wrap, mode=model.PLAIN):
     end = width + 1 if wrap == "" else wrap
-    _, dropped, rows = panel.drawn(font, width, height, scale, end, text)
+    _, dropped, rows = panel.drawn(font, width, height, scale, end, text, mode)
     return rows, dropped
 
 
-def shown(folder):
-    """`wrap` is a number, None for no wrap, or nothing for the right end; `more` goes to the environment"""
-    own, f = panel.meter.stored_font(), two_digits()
-    store(folder, "f.pcf", f)
-
-    def same(what, words, text, width=72, height=21, scale=1, wrap="", font=own, **more):
-        rows, dropped = drawn_by_model(font, text.encode(), width, height, scale, wrap)
-        output = panel_of(rows, dropped, panel.skipped(font, text.encode()))
+def showing(folder, own):
+    """tries `show`: `wrap` is a number, None for no wrap, or nothing for the right end; `more` goes to the
+    environment"""
+    def same(what, words, text, width=72, height=21, scale=1, wrap="", font=own, mode=model.PLAIN, **more):
+        rows, dropped = drawn_by_model(font, text.encode(), width, height, scale, wrap, mode)
+        output = panel_of(rows, dropped, font, text.encode(), mode)
         expect(what, run("show", *words, folder=folder, **more), 0, output, None)
         return dropped
 
+    return same
+
+
+def shown(folder):
+    own, f = panel.meter.stored_font(), two_digits()
+    store(folder, "f.pcf", f)
+    same = showing(folder, own)
     both = panel.TEXT.decode()
     same("a reading", ["12 345 kWh"], "12 345 kWh")
     same("two lines", [both], both)
@@ -88,3 +97,33 @@ def shown(folder):
             same("the meter's font, " + orders.told(form), ["--font", name, both], both)
     full = f + bytes(MOST_SHOWN - len(f))
     same("a font as long as may be", ["--font", store(folder, "wide.pcf", full), *small], "01", 6, 3, 1, None, f)
+
+
+def shown_by_default(folder):
+    """in default mode; a page that needs no default is the plain one"""
+    own, f = panel.meter.stored_font(), two_digits()
+    same = showing(folder, own)
+
+    def in_default_mode(what, words, text, *sizes, **more):
+        same(what, words, text, *sizes, mode=panel.DEFAULT, **more)
+
+    for font, text, by_default, skipped in panel.default_cases():
+        name = store(folder, "default.pcf", font)
+        what = "the default shows %s, and %s is skipped" % (by_default, skipped)
+        in_default_mode(what, ["--default", "--font", name, "--", text], text, font=font)
+        same("plainly", ["--font", name, "--", text], text, font=font)
+    for text, _ in panel.OF_METER:
+        in_default_mode("a text that is skipped plainly", ["--default", "--", text], text)
+    in_default_mode("behind the text", ["Grüße", "--default"], "Grüße")
+    in_default_mode("between other options", ["--height=40", "--default", "--scale", "2", "süß"], "süß", 72, 40, 2)
+    in_default_mode("twice is once", ["--default", "ü", "--default"], "ü")
+    same("a text like the option", ["--", "--default"], "--default")
+    in_default_mode("the option and such a text", ["--default", "--", "--default"], "--default")
+    in_default_mode("wrapped", ["--default", "ü" * 15], "ü" * 15)
+    in_default_mode("wrapped earlier", ["--default", "ä ö ü", "--wrap", "12"], "ä ö ü", wrap=12)
+    in_default_mode("cut", ["--default", "ü8ü", "--height", "5"], "ü8ü", height=5)
+    in_default_mode("as many as may be", ["--default", "\x01" * 65535], "\x01" * 65535)
+    small = ["--width", "6", "--height", "3", "--wrap", "none"]
+    in_default_mode("another font", ["--font", "f.pcf", "--default", *small, "1x"], "1x", 6, 3, 1, None, font=f)
+    for locale in ("C", "C.UTF-8"):
+        in_default_mode("named in the locale " + locale, ["süß", "--default"], "süß", LC_ALL=locale)

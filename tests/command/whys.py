@@ -14,7 +14,9 @@ from pcf.font_f import two_digits
 from reasons import expected as stored_run
 from reasons import fonts, lines
 
-seen = set()  # the reasons that were given
+seen = set()             # the reasons that were given
+seen_by_default = set()  # and those of the default character's glyph
+PLACE = dict(width=stored_run.WIDTH, height=stored_run.HEIGHT, start=stored_run.START, scale=stored_run.SCALE)
 
 
 def vetting(name, font):
@@ -37,27 +39,28 @@ def told(what, got, name, font, answers, said=()):
     """the lines, the status, and what is said of a number and by vetting"""
     numbers = [number for number, _ in answers]
     seen.update(numbers)
+    seen_by_default.update(number for number, line in answers if ", by the default character " in line)
     status = 0 if set(numbers) <= {lines.DRAWN} else 1
     expect(what, got, status, "".join(line for _, line in answers).encode(), [*said, *vetting(name, font)])
 
 
-def asked(folder, name, font, words, text=None, code=None, width=72, height=21, start=0, stride=None, scale=1, **more):
+def asked(folder, name, font, words, text=None, code=None, width=72, height=21, start=0, stride=None, scale=1,
+          mode=model.PLAIN, **more):
     """asks with these words for a text or a code"""
     at = lines.Place(width * height, start, width if stride is None else stride, scale)
     rec = model.load(font)
-    answers = lines.of_text(font, rec, text, at) if code is None else [lines.of_code(font, rec, code, at)]
+    answers = lines.of_text(font, rec, mode, text, at) if code is None else [lines.of_code(font, rec, mode, code, at)]
     told("why %s" % words, run("why", name, *words, folder=folder, **more), name, font, answers, taken(words, code))
 
 
 def every_reason(folder):
     every = fonts.every()
     name = store(folder, "every.pcf", every)
-    place = dict(width=stored_run.WIDTH, height=stored_run.HEIGHT, start=stored_run.START, scale=stored_run.SCALE)
-    options = ["--%s=%d" % option for option in place.items()]
-    asked(folder, name, every, [fonts.TEXT, *options], fonts.TEXT, **place)
+    options = ["--%s=%d" % option for option in PLACE.items()]
+    asked(folder, name, every, [fonts.TEXT, *options], fonts.TEXT, **PLACE)
     asked(folder, name, every, [fonts.TEXT], fonts.TEXT)
     for c in fonts.TEXT:
-        asked(folder, name, every, ["U+%04X" % ord(c), *options], code=ord(c), **place)
+        asked(folder, name, every, ["U+%04X" % ord(c), *options], code=ord(c), **PLACE)
     for k, font in enumerate(fonts.bad_orders()):
         asked(folder, store(folder, "order_%d.pcf" % k, font), font, ["01a"], "01a")
     for font, text in (("meter.pcf", "Grüße, 8 m³\u2009😀"), ("f.pcf", "0 1"), ("f.pcf.gz", "1\n0")):
@@ -66,6 +69,35 @@ def every_reason(folder):
     lacking = set(model.REASONS) - seen
     if lacking:
         fail("no character has the reasons %s" % sorted(lacking))
+
+
+def by_default(folder):
+    """in default mode: every reason of the default character's glyph, and each way in which that has none"""
+    def of_default(name, font, words, text=None, **more):
+        asked(folder, name, font, ["--default", *words], text, mode=panel.DEFAULT, **more)
+
+    options = ["--%s=%d" % option for option in PLACE.items()]
+    for default in [ord(c) for c in fonts.TEXT if ord(c) < 65536] + [0, 0xFFFF]:
+        font = fonts.every(default)
+        name = store(folder, "default.pcf", font)
+        of_default(name, font, [fonts.TEXT, *options], fonts.TEXT, **PLACE)
+        for code in (0xFFFFFFFF, default):
+            of_default(name, font, ["U+%04X" % code], code=code)
+    for k, font in enumerate(fonts.bad_orders()):
+        of_default("order_%d.pcf" % k, font, ["01a"], "01a")
+    f, own = two_digits(), panel.meter.stored_font()
+    for font, text, _, _ in panel.default_cases():
+        if text:
+            of_default(store(folder, "default.pcf", font), font, ["--", text], text)
+    of_default("meter.pcf", own, ["Grüße, 8 m³\u2009😀"], "Grüße, 8 m³\u2009😀")
+    of_default("meter.pcf", own, ["ü", "--default", "--scale=2"], "ü", scale=2)
+    of_default("f.pcf", f, ["--", "--default"], "--default")
+    asked(folder, "f.pcf", f, ["--", "--default"], "--default")
+    for locale in ("C", "C.UTF-8"):
+        of_default("meter.pcf", own, ["süß ²³"], "süß ²³", LC_ALL=locale)
+    lacking = set(model.REASONS) - {31, 32, 33, 34} - seen_by_default
+    if lacking:
+        fail("no default character has the reasons %s" % sorted(lacking))
 
 
 def two_bytes(folder):
@@ -101,7 +133,7 @@ def ways_to_ask(folder):
     for text in ("U+0030", "u+0030", "0x41", "65", "--", "--scale", "8"):
         of_meter(["--", text], text)
     of_meter(["--scale=2", "--", "08"], "08", scale=2)
-    both = lines.of_text(f, model.load(f), "00", lines.Place(72 * 21, 0, 72, 1))
+    both = lines.of_text(f, model.load(f), model.PLAIN, "00", lines.Place(72 * 21, 0, 72, 1))
     told("the font after the dashes", run("why", "--", "f.pcf", "00", folder=folder), "f.pcf", f, both)
     for locale in ("C", "C.UTF-8"):
         of_meter(["süß ²³"], "süß ²³", LC_ALL=locale)
@@ -199,6 +231,9 @@ def not_asked(folder):
     fails("two characters", "why takes one font and one character", "f.pcf", "0", "1")
     fails("an unknown option", "why has no option '--wrap'", "f.pcf", "0", "--wrap", "3")
     fails("a font as an option", "why has no option '--font'", "--font=f.pcf", "0")
+    for value in ("", "yes", "1"):
+        fails("--default=" + value, "--default takes no value", "f.pcf", "0", "--default=" + value)
+    fails("no character, but --default", "why takes a font and a character", "f.pcf", "--default")
     fails("an option without its value", "--start takes a value", "f.pcf", "0", "--start")
     for option in ("--start", "--stride", "--scale", "--width", "--height"):
         for value in ("", "x", "-1", "1.5", "0x10", "1 2"):

@@ -53,42 +53,41 @@ OF_F = [
 ]
 
 
-# in default mode: a text, how many characters the default one shows, and what is named all the same: with the meter's
+# in default mode: a text, what the default character shows of it, and what is skipped all the same: with the meter's
 # font, whose default character is the question mark
 DEFAULT_OF_METER = [
-    ("", 0, []),
-    ("12 345 kWh\r\n3.07 m³", 0, []),
-    ("Grüße", 2, []),
-    ("What?", 0, []),
-    ("é?è", 2, []),
-    ("ä\r\nö\n\n\rü", 3, []),
-    ("€\uffff\U00010000😀\U0010FFFF", 5, []),
-    ("\0\t\x1b\x7f\xa0\u200b\U000e0041", 7, []),
+    ("", [], []),
+    ("12 345 kWh\r\n3.07 m³", [], []),
+    ("Grüße", ["ü", "ß"], []),
+    ("What?", [], []),
+    ("é?é", ["é", "é"], []),
+    ("ä\r\nö\n\n\rü", ["ä", "ö", "ü"], []),
+    ("€\uffff\U00010000😀\U0010FFFF", ["€", "\uffff", "\U00010000", "😀", "\U0010FFFF"], []),
+    ("\t5\x1b\x7f\xa0\u200b\U000e0041", ["U+0009", "U+001B", "U+007F", "U+00A0", "U+200B", "U+E0041"], []),
 ]
 
 # with font F, whose default character is 0
 DEFAULT_OF_F = [
-    ("01", 0, []),
-    ("1a", 1, []),
-    ("a b😀", 4, []),
-    ("\r\n\n\r", 0, []),
-    ("\r2\n0\r\n2", 2, []),
+    ("01", [], []),
+    ("1a", ["a"], []),
+    ("a b😀", ["a", "U+0020", "b", "😀"], []),
+    ("\r\n\n\r", [], []),
+    ("\r2\n0\r\n2", ["2", "2"], []),
 ]
 
-# and with font F and another default code: one outside its bounds, below, above and far above them, has no glyph, and 1
-# has one
+# and with font F and another default code: one that is below, above or far above its bounds has no glyph, and 1 has one
 DEFAULT_OF_OTHERS = [
-    (0x00, "0\0a1", 0, ["U+0000", "a"]),
-    (0x0A, "0\n1\ra", 0, ["a"]),
-    (0x2F, "/01/", 0, ["/", "/"]),
-    (0x32, "02\r\n😀", 0, ["2", "😀"]),
-    (0xFFFF, "\uffff1\U0010FFFF", 0, ["\uffff", "\U0010FFFF"]),
-    (0x31, "12\n3/", 3, []),
+    (0x00, "0\x01a1", [], ["U+0001", "a"]),
+    (0x0A, "0\n1\ra", [], ["a"]),
+    (0x2F, "/01/", [], ["/", "/"]),
+    (0x32, "02\r\n😀", [], ["2", "😀"]),
+    (0xFFFF, "\uffff1\U0010FFFF", [], ["\uffff", "\U0010FFFF"]),
+    (0x31, "12\n3/", ["2", "3", "/"], []),
 ]
 
 
 def default_cases():
-    """the font, the text, how many characters its default one shows, and what it lacks even so"""
+    """the font, the text, what its default character shows of it, and what it lacks even so"""
     f = two_digits()
     yield from ((meter.stored_font(), *case) for case in DEFAULT_OF_METER)
     yield from ((f, *case) for case in DEFAULT_OF_F)
@@ -123,15 +122,18 @@ def looked_up(font, text, mode):
     return [(c, model.serve(font, rec, mode, ord(c))) for c in text.decode() if c not in "\r\n"]
 
 
+def named(characters):
+    return ["U+%04X" % ord(c) if any(low <= ord(c) <= high for low, high in UNSEEN) else c for c in characters]
+
+
 def skipped(font, text, mode=model.PLAIN):
     """what names each character that the font lacks, in the text's order"""
-    lacking = [c for c, served in looked_up(font, text, mode) if served is None]
-    return ["U+%04X" % ord(c) if any(low <= ord(c) <= high for low, high in UNSEEN) else c for c in lacking]
+    return named(c for c, served in looked_up(font, text, mode) if served is None)
 
 
-def shown_by_default(font, text, mode):
-    """how many characters the default one shows"""
-    return sum(served is not None and served[2] for _, served in looked_up(font, text, mode))
+def by_default(font, text, mode=model.PLAIN):
+    """and each that the default one shows"""
+    return named(c for c, served in looked_up(font, text, mode) if served is not None and served[2])
 
 
 def default_of(font):
@@ -144,9 +146,9 @@ def main():
         for text, names in cases:
             if skipped(of, text.encode()) != names:
                 fail("of %r is skipped %s" % (text, skipped(of, text.encode())))
-    for of, text, count, names in default_cases():
-        got = shown_by_default(of, text.encode(), DEFAULT), skipped(of, text.encode(), DEFAULT)
-        if got != (count, names):
+    for of, text, *names in default_cases():
+        got = [by_default(of, text.encode(), DEFAULT), skipped(of, text.encode(), DEFAULT)]
+        if got != names:
             fail("of %r the default shows, and is skipped, %s" % (text, got))
     wrap = WIDTH + 1
     high, dropped, rows = drawn(font, WIDTH, HEIGHT, 1, wrap, LACKING)

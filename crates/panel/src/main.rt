@@ -13,9 +13,7 @@ use crate::asked::Request;
 use crate::asked::asked_of;
 use crate::blocks::print_blocks;
 use crate::picture::print_picture;
-use crate::served::default_count;
-use crate::served::print_count;
-use crate::served::print_skipped;
+use crate::served::print_served;
 use console::refusal_of;
 use console::say;
 use console::say_with;
@@ -77,8 +75,8 @@ fn font_shown(r: Request, text: &[u8], font: &[u8], panel: &mut [u32]) -> Shown 
     }
 }
 
-// The panel; after half blocks, what the text lost and how high it is, how many characters the default code shows, and
-// what the font lacks.
+// The panel; after half blocks, what the text lost and how high it is, what the default code shows, and what the font
+// lacks.
 fn print_panel(
     r: Request,
     text: &[u8],
@@ -96,9 +94,7 @@ fn print_panel(
     }
     print_blocks(pixels, r.width, out);
     say_with(b"dropped # height #\n", &[rows.dropped, rows.height]);
-    let mode = mode_of(r.mode);
-    print_count(default_count(text, font, codes, mode), codes);
-    print_skipped(text, font, codes, mode);
+    print_served(text, font, codes, mode_of(r.mode));
 }
 
 fn with_font(r: Request, text: &[u8], font: &[u8], panel: &mut [u32], out: &mut [u8])

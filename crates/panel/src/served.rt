@@ -41,7 +41,7 @@ fn by_default(code: u32, served: Served) -> bool
 }
 
 // How many characters of a text the default code shows.
-pub(crate) fn default_count(text: &[u8], font: &[u8], codes: EncodingData, mode: Mode) -> usize
+fn default_count(text: &[u8], font: &[u8], codes: EncodingData, mode: Mode) -> usize
     ensures { λ r. ⌜ CountsDefaults (now (font .entry)) codes mode (now (text .entry)) r ⌝ }
 {
     let mut n = 0;
@@ -64,13 +64,6 @@ pub(crate) fn default_count(text: &[u8], font: &[u8], codes: EncodingData, mode:
     }
 }
 
-// The count in a line of its own, and the default code.
-pub(crate) fn print_count(n: usize, codes: EncodingData) {
-    say_with(b"default # ", &[n]);
-    say_code(codes.default as u32);
-    say(b"\n");
-}
-
 // A space, and the character as its bytes or, where it would not be seen, its code. So there are as many spaces
 // as characters.
 fn print_one(code: u32, bytes: &[u8]) {
@@ -82,19 +75,29 @@ fn print_one(code: u32, bytes: &[u8]) {
     }
 }
 
-// The skipped ones in a line: each occurrence, in the text's order. The text was drawn, so it is UTF-8 to its end.
-pub(crate) fn print_skipped(text: &[u8], font: &[u8], codes: EncodingData, mode: Mode) {
-    say(b"skipped");
+// The characters that the default code shows, or else those that are skipped: each occurrence, in the text's order. The
+// text was drawn, so it is UTF-8 to its end.
+fn print_names(text: &[u8], font: &[u8], codes: EncodingData, mode: Mode, shown: bool) {
     let mut i = 0;
     loop {
         let here = step_at(text, i);
         let Step::Char(code, next) = here else {
             break;
         };
-        if lacked(code.0, serve(font, codes, mode, code)) {
+        let served = serve(font, codes, mode, code);
+        if (shown & by_default(code.0, served)) | (!shown & lacked(code.0, served)) {
             print_one(code.0, &text[i..next]);
         }
         i = next;
     }
+}
+
+// A line of those that the default code shows: how many there are, that code, and each; and a line of those skipped.
+pub(crate) fn print_served(text: &[u8], font: &[u8], codes: EncodingData, mode: Mode) {
+    say_with(b"default # ", &[default_count(text, font, codes, mode)]);
+    say_code(codes.default as u32);
+    print_names(text, font, codes, mode, true);
+    say(b"\nskipped");
+    print_names(text, font, codes, mode, false);
     say(b"\n");
 }

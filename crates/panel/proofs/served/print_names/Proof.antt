@@ -9,8 +9,8 @@ use Rattle.utf8.specs.Step.{stepAt}
 use Rattle.utf8.specs.declared.Step.{Step}
 use Rattle.utf8.proofs.Walk.{step-within, step-less}
 use borrow.Author.Needs.{needs}
-use Rattle.panel.proofs.served.print_skipped.Statement.{statement}
-use Rattle.panel.proofs.served.print_skipped.Tie as tie
+use Rattle.panel.proofs.served.print_names.Statement.{statement}
+use Rattle.panel.proofs.served.print_names.Tie as tie
 
 module _ (text : List ℕ) (i : ℕ) (here : Step) (code : CharCode) (next : ℕ) (here-is : here ≡ stepAt text i) (read : here ≡ Step.Char code next) where
   ends-after : i ≤ next
@@ -20,23 +20,22 @@ module _ (text : List ℕ) (i : ℕ) (here : Step) (code : CharCode) (next : ℕ
   ends-within = step-within text i code next (sym here-is ∙ read) .1
 
 abbrev Inv-loop : tie.InvT-loop
-Inv-loop text font codes mode i₀ t9 i = Unit {0}
+Inv-loop text font codes mode shown i₀ i = Unit {0}
 
 abbrev μ-loop : tie.MeasureT-loop
-μ-loop text font codes mode i₀ t9 i = length text - i
+μ-loop text font codes mode shown i₀ i = length text - i
 
-pub print-skipped-spec : {M : Type 1} → statement M
-print-skipped-spec =
+pub print-names-spec : {M : Type 1} → statement M
+print-names-spec =
     tie.close
     (tie.spec
     Inv-loop
     μ-loop
-    (λ c. search needs)  -- slice-aggregate-say
-    (λ c κs. search needs)  -- say-requires
     (λ c. tt)  -- loop-holds
     (λ c κs. search needs)  -- step-at-requires
     (λ c. search needs)  -- enum-known-here
     (λ c κs. search needs)  -- serve-requires
+    (λ c κs. search needs)  -- by-default-requires
     (λ c κs. search needs)  -- lacked-requires
     (λ c. search ends-after)  -- sub-print-one
     (λ c. search ends-after)  -- part-print-one-start
@@ -46,6 +45,4 @@ print-skipped-spec =
     (λ c. tt)  -- loop-again
     (λ c. search step-less)  -- loop-less-2
     (λ c. tt)  -- loop-again-2
-    (λ c. search needs)  -- slice-aggregate-say-2
-    (λ c κs. search needs)  -- say-requires-2
     (λ c. search needs))  -- returns
