@@ -2,6 +2,7 @@
 import os
 import zlib
 
+import model
 from command.script import count, expect, run
 from command.shows import drawn_by_model, panel_of
 from common import ROOT, fail
@@ -39,12 +40,15 @@ def read_png(path):
 
 def pictures(folder):
     font = panel.meter.stored_font()
-    for text, width, height, scale in (("12 345 kWh", 72, 20, 1), ("12\n34", 64, 21, 2), ("1", 1, 1, 1),
-                                       ("0°", 128, 5, 1), ("süß", 30, 12, 1), (panel.TEXT.decode(), 200, 300, 3)):
-        rows, dropped = drawn_by_model(font, text.encode(), width, height, scale, "")
+    plain, by_default = (model.PLAIN, []), (panel.DEFAULT, ["--default"])
+    for text, width, height, scale, (mode, more) in (
+            ("12 345 kWh", 72, 20, 1, plain), ("12\n34", 64, 21, 2, plain), ("1", 1, 1, 1, plain),
+            ("0°", 128, 5, 1, plain), ("süß", 30, 12, 1, plain), ("süß", 30, 12, 1, by_default),
+            (panel.TEXT.decode(), 200, 300, 3, plain)):
+        rows, dropped = drawn_by_model(font, text.encode(), width, height, scale, "", mode)
         got = run("show", text, "--width=%d" % width, "--height=%d" % height, "--scale=%d" % scale, "--pbm",
-                  "a folder/a picture.pbm", folder=folder)
-        expect("a picture beside the panel", got, 0, panel_of(rows, dropped, font, text.encode()), None)
+                  "a folder/a picture.pbm", *more, folder=folder)
+        expect("a picture beside the panel", got, 0, panel_of(rows, dropped, font, text.encode(), mode), None)
         if read_pbm(os.path.join(folder, "a folder/a picture.pbm")) != rows:
             fail("the picture of %s is not the panel" % text)
     rows, _ = drawn_by_model(font, panel.TEXT, panel.WIDTH, panel.HEIGHT, 1, "")

@@ -1,6 +1,6 @@
-// What the input asks. It begins with nine numbers of four bytes, the least significant first: 0 for the characters of a
-// text or 1 for one code, that code, the panel's width and height, the start, the stride, the scale, the mode, and the
-// length of the text. The text follows, and then the font's bytes to the end.
+// What the input asks. It begins with nine numbers of four bytes, the least significant first: 0 for the characters of
+// a text or 1 for one code, that code, the panel's width and height, the start, the stride, the scale, the mode, and
+// the length of the text. The text follows, and then the font's bytes to the end.
 use modes::is_known;
 use reads::CharCode;
 use reads::u32_at;
