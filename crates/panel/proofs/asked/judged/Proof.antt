@@ -1,5 +1,5 @@
 use Prim.Native.Nat.{ℕ, _+_, _≤_, _<_}
-use mathlib.Core.Path.{_≡_, sym, _∙_}
+use mathlib.Core.Path.{_≡_}
 use mathlib.Core.Bool.{Bool, true, false, not}
 use Rattle.modes.specs.Modes.{isKnown}
 use Rattle.panel.specs.declared.asked.Request.{Request}
