@@ -36,9 +36,9 @@ module _ (s : List ℕ) (c : EncodingData) where
       passed-on by (Found.Glyph g) h = has-values
       passed-on by (Found.Refused r) h = h
 
-  pub served-refusals : (mode : Mode) (code : ℕ) → NumberedBy (9 ∷ []) (saidServed (served s c mode code))
+  pub serve-refusals : (mode : Mode) (code : ℕ) → NumberedBy (9 ∷ []) (saidServed (served s c mode code))
   unfolding served
-  served-refusals mode code = by (glyphOf s c code) where
+  serve-refusals mode code = by (glyphOf s c code) where
     by : (x : Found) → NumberedBy (9 ∷ []) (saidServed (orElse code x (standIn s c mode)))
     by (Found.Glyph g) = has-values
     by (Found.Refused r) = stand-in-refusals mode

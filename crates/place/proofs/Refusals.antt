@@ -12,7 +12,7 @@ use Rattle.modes.specs.declared.Mode.{Mode}
 use Rattle.lookup.specs.Served.{served, saidServed}
 use Rattle.lookup.specs.declared.Served.{Served}
 use Rattle.lookup.specs.declared.Supplier.{Supplier}
-use Rattle.lookup.proofs.Refusals.{served-refusals}
+use Rattle.lookup.proofs.Refusals.{serve-refusals}
 use Rattle.metrics.specs.Measure.{metricsOf, saidMeasured}
 use Rattle.metrics.specs.declared.Measured.{Measured}
 use Rattle.metrics.proofs.Refusals.{metrics-of-refusals}
@@ -30,7 +30,7 @@ module _ (s : List ℕ) where
   pub char-info-refusals : (codes : EncodingData) (mode : Mode) (metrics : MetricsData) (bounds : MetricsUnpacked) (code : ℕ)
       → NumberedBy (9 ∷ ofPlacing) (saidPlaced (prepared s codes mode metrics bounds code))
   unfolding prepared
-  char-info-refusals codes mode metrics bounds code = by (served s codes mode code) (served-refusals s codes mode code) where
+  char-info-refusals codes mode metrics bounds code = by (served s codes mode code) (serve-refusals s codes mode code) where
     of : (p : Supplier) (x : Prepared) → NumberedBy ofPlacing (saidPrepared x) → NumberedBy (9 ∷ ofPlacing) (saidPlaced (placedBy p x))
     of p (Prepared.Info i) h = has-values
     of p (Prepared.Refused r) h = one-more h

@@ -8,7 +8,7 @@ use Rattle.tables.specs.declared.Record.{Record}
 use Rattle.modes.specs.Modes.{isKnown, modeOf}
 use Rattle.lookup.specs.Served.{served, saidServed}
 use Rattle.lookup.specs.declared.Served.{Served}
-use Rattle.lookup.proofs.Refusals.{served-refusals}
+use Rattle.lookup.proofs.Refusals.{serve-refusals}
 use Rattle.place.specs.Bounds.{boundsOf}
 use Rattle.place.specs.Info.{preparedIn, ofPlacing, saidPlaced}
 use Rattle.place.specs.declared.CharPrepared.{CharPrepared}
@@ -20,7 +20,7 @@ module _ (s : List ℕ) (rec : Record) (code mode : ℕ) where
   pub thalluskin-glyph-refusals :
       Refusals s rec (6 ∷ 15 ∷ 9 ∷ []) (saidServed (guarded Served.Refused s rec (isKnown mode) (served s (rec .codes) (modeOf mode) code)))
   thalluskin-glyph-refusals =
-      guarded-refusals s rec saidServed Served.Refused (λ r. refl) (isKnown mode) _ refl (λ fits. served-refusals s (rec .codes) (modeOf mode) code)
+      guarded-refusals s rec saidServed Served.Refused (λ r. refl) (isKnown mode) _ refl (λ fits. serve-refusals s (rec .codes) (modeOf mode) code)
 
   pub thalluskin-prep-char-refusals :
       Refusals s rec (6 ∷ 15 ∷ 9 ∷ ofPlacing) (saidPlaced (guarded CharPrepared.Refused s rec (isKnown mode) (preparedIn s rec (modeOf mode) code)))

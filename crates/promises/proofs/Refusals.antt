@@ -11,7 +11,7 @@ use Rattle.tables.proofs.RecordParts.{prop-strings, name-strings}
 use Rattle.modes.specs.declared.Mode.{Mode}
 use Rattle.lookup.specs.Served.{served, getGlyph, saidServed}
 use Rattle.lookup.specs.declared.Served.{Served}
-use Rattle.lookup.proofs.Refusals.{served-refusals}
+use Rattle.lookup.proofs.Refusals.{serve-refusals}
 use Rattle.names.specs.Names.{getName, saidNamed}
 use Rattle.names.specs.declared.Named.{Named}
 use Rattle.names.proofs.Refusals.{name-in-data}
@@ -44,7 +44,7 @@ module _ (s : List ℕ) (rec : Record) where
   pub get-glyph-refusals : (mode : Mode) (code : ℕ) → Refusals s rec (6 ∷ 9 ∷ []) (saidServed (getGlyph s rec mode code))
   unfolding getGlyph
   get-glyph-refusals mode code =
-      tested-refusals s rec saidServed Served.Refused (λ r. refl) _ refl (λ fits. served-refusals s (rec .codes) mode code)
+      tested-refusals s rec saidServed Served.Refused (λ r. refl) _ refl (λ fits. serve-refusals s (rec .codes) mode code)
 
   pub get-name-refusals : (g : ℕ) → Refusals s rec (6 ∷ 17 ∷ 18 ∷ []) (saidNamed (getName s rec g))
   unfolding getName
