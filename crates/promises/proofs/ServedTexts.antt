@@ -4,16 +4,14 @@ use Prim.Native.Nat.{ℕ, _+_}
 use mathlib.Core.Path.{_≡_, refl, sym, ap, _∙_}
 use mathlib.Core.Bool.{Bool, true, _||_}
 use mathlib.Core.List.{List, [], _∷_}
-use mathlib.Core.Logic.{_↔_, inl, inr, ⊎-elim}
+use mathlib.Core.Logic.{_↔_, ⊎-elim}
 use native.Mathlib.Omega.{arith}
 use lib.ListN.{length}
 use borrow.Author.Tests.{ne-eqb}
-use Rattle.reads.specs.Said.{refusal}
 use Rattle.tables.specs.declared.Record.{Record}
 use Rattle.modes.specs.Modes.{plain}
 use Rattle.modes.specs.declared.Mode.{Mode}
 use Rattle.lookup.specs.Served.{served}
-use Rattle.lookup.specs.declared.Served.{Served}
 use Rattle.bitmaps.specs.Paint.{painted}
 use Rattle.place.specs.Info.{infoIn}
 use Rattle.place.specs.declared.Prepared.{Prepared}
@@ -24,7 +22,7 @@ use Rattle.text.specs.declared.Layout.{Layout}
 use Rattle.text.specs.declared.Pen.{Pen}
 use Rattle.text.specs.declared.Placed.{Placed}
 use Rattle.text.specs.declared.TextDrawn.{TextDrawn}
-use Rattle.promises.specs.Serving.{HasNone, ShownBy, Unshown, Looked, AllLooked}
+use Rattle.promises.specs.Serving.{HasNone, Unshown, Looked, AllLooked}
 use Rattle.promises.proofs.Serving.{own-served, unserved-exactly, served-or-9, served-exactly}
 
 -- ---- which codes are skipped

@@ -9,7 +9,6 @@ use lib.Dec.{leb, ltb, eqb}
 use borrow.Author.Tests.{leb-true, leb-false, le-leb, eqb-true, eq-eqb}
 use Rattle.reads.specs.Num.{u16At}
 use Rattle.reads.specs.Range.{between}
-use Rattle.reads.specs.declared.GlyphIndex.{GlyphIndex}
 use Rattle.reads.specs.declared.Refusal.{Refusal}
 use Rattle.reads.proofs.Tests.{never, split, both}
 use Rattle.tables.specs.declared.EncodingData.{EncodingData}
