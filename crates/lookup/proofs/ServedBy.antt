@@ -1,6 +1,6 @@
 -- What a lookup in a mode answers, by the tests that the code makes on its way.
 use Prim.Native.Nat.{ℕ}
-use mathlib.Core.Path.{_≡_, refl}
+use mathlib.Core.Path.{_≡_}
 use mathlib.Core.Bool.{Bool, true, false}
 use mathlib.Core.List.{List}
 use lib.ListN.{length}
@@ -32,8 +32,8 @@ module _ (s : List ℕ) (c : EncodingData) (mode : Mode) where
 
 -- a code's own glyph, or the other
 module _ (code : ℕ) (own : Found) (other : Served) where
-  pub own-first : (g : GlyphIndex) → own ≡ Found.Glyph g → Served.Glyph g (itself code) ≡ orElse code own other
-  own-first g e = rw e
+  pub own-first : (g : GlyphIndex) (answer : Served) → own ≡ Found.Glyph g → answer ≡ Served.Glyph g (itself code) → answer ≡ orElse code own other
+  own-first g answer e is = rw e is
 
   pub else-other : (r : Refusal) (answer : Served) → own ≡ Found.Refused r → answer ≡ other → answer ≡ orElse code own other
   else-other r answer e is = rw e is

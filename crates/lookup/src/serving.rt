@@ -7,12 +7,14 @@ use crate::Supplier;
 use crate::glyph_of;
 use modes::Mode;
 use reads::CharCode;
+use reads::GlyphIndex;
 use reads::Refusal;
 use tables::EncodingData;
 use tables::Record;
 use tables::record_fits;
 ghost use mathlib.Core.Path.{_≡_};
-ghost use Rattle.lookup.specs.Served.{standIn, orElse, served, getGlyph};
+ghost use Rattle.lookup.specs.Served.{itself, standIn, orElse, served, getGlyph};
+ghost use Rattle.lookup.specs.declared.Served.{Served};
 
 // What shows a code without a glyph: in default mode the default code's own glyph; in the plain mode nothing does, 9.
 pub fn stand_in(s: &[u8], codes: EncodingData, mode: Mode) -> Served
@@ -39,18 +41,25 @@ pub fn stand_in(s: &[u8], codes: EncodingData, mode: Mode) -> Served
     }
 }
 
+// A glyph that its own code supplied.
+fn by_itself(g: GlyphIndex, code: CharCode) -> Served
+    ensures { λ r. ⌜ r ≡ Served.Glyph g (itself (code .0)) ⌝ }
+{
+    Served::Glyph(
+        g,
+        Supplier {
+            code,
+            is_default: false,
+        },
+    )
+}
+
 // A code's own glyph, or else the other, for a caller that asks for many codes and for what stands in once.
 pub fn or_else(code: CharCode, own: Found, other: Served) -> Served
     ensures { λ r. ⌜ r ≡ orElse (code .0) own other ⌝ }
 {
     match own {
-        Found::Glyph(g) => Served::Glyph(
-            g,
-            Supplier {
-                code,
-                is_default: false,
-            },
-        ),
+        Found::Glyph(g) => by_itself(g, code),
         Found::Refused(_) => other,
     }
 }
@@ -60,13 +69,7 @@ pub fn or_stand_in(s: &[u8], codes: EncodingData, mode: Mode, code: CharCode, ow
     ensures { λ r. ⌜ r ≡ orElse (code .0) own (standIn (now (s .entry)) codes mode) ⌝ }
 {
     match own {
-        Found::Glyph(g) => Served::Glyph(
-            g,
-            Supplier {
-                code,
-                is_default: false,
-            },
-        ),
+        Found::Glyph(g) => by_itself(g, code),
         Found::Refused(_) => stand_in(s, codes, mode),
     }
 }

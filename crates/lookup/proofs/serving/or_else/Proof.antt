@@ -8,6 +8,7 @@ or-else-spec =
     tie.close
     (tie.spec
     (λ c. search needs)  -- enum-known-own
+    (λ c κs. search needs)  -- by-itself-requires
     (λ c. search needs)  -- enum-told
     (λ c. search own-first)  -- returns
     (λ c. search needs))  -- returns-2

@@ -8,6 +8,7 @@ or-stand-in-spec =
     tie.close
     (tie.spec
     (λ c. search needs)  -- enum-known-own
+    (λ c κs. search needs)  -- by-itself-requires
     (λ c. search needs)  -- enum-told
     (λ c κs. search needs)  -- stand-in-requires
     (λ c. search own-first)  -- returns
