@@ -24,9 +24,9 @@
  *     the stack's pointer, as Linux programs may, and without memcpy and memset:
  *
  *         thk_vet 3,700; thk_load 3,200; thk_load_strict 3,200
- *         thk_draw_string 1,600; thk_text_check 1,500; thk_why 1,300
- *         thk_draw_char 1,000; thk_draw_bitmap 900; thk_draw_glyph 800; thk_unpack_glyph 400
- *         thk_prep_char 700; thk_glyph 400; thk_metrics 300; thk_property 200; each of the others 100
+ *         thk_draw_string 1,400; thk_text_check 1,400; thk_why 1,000
+ *         thk_draw_char 900; thk_draw_bitmap 900; thk_draw_glyph 800; thk_unpack_glyph 400
+ *         thk_prep_char 700; thk_metrics 300; thk_property 200; each of the others 100
  *
  *     and its caller some 500 for the answer and for copies of the record and of a page's numbers. The page
  *     that `./thalluskin build` leaves beside an archive for another processor has its figures.
