@@ -120,7 +120,7 @@ enum {
  * any other bit. */
 typedef uint32_t thk_mode;
 
-/* A code without a glyph has none: a call for it is refused 9, and texts skip it. */
+/* Each code is looked up as it is: one without a glyph is refused 9, and texts skip it. */
 #define THK_PLAIN 0
 
 /* A code without a glyph, one above 65,535 too, has that of the font's default code, if that code has one of its own.

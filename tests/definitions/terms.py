@@ -64,7 +64,7 @@ def term(font, rec, c):
         "get_glyph": "saidServed (getGlyph {f} {r} {m} {code})", "prop_at": "saidProp (propAt {f} {r} {i})",
         "get_name": "saidNamed (getName {f} {r} {g})", "get_metrics": "saidMeasured (getMetrics {f} {r} {g})",
         "get_accelerators": "saidAccelerated (getAccelerators {f} {r})",
-        "dimensions": "saidSized (dimensions {f} {r})", "prep_char": "saidPlaced (prepChar {f} {r} {m} {code})",
+        "dimensions": "saidSized (dimensions {f} {r})", "prep_char": "saidCharPrepared (prepChar {f} {r} {m} {code})",
         "utf8_step": "saidStep (stepAt {t} {i})", "check": "saidChecked (checkedText {t})",
         "hex_read": "saidHex (hexRead {t})",
         "why": "saidTold (whyOf {f} {r} {m} {code} {len} (placeAt {start} {stride} {scale}))",

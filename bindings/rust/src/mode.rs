@@ -21,8 +21,8 @@ pub struct Mode {
 }
 
 impl Mode {
-    /// No field is set: a code without a glyph has none, so that a call for it is refused 9, and texts skip it. It is
-    /// what Rust's own default is, too.
+    /// No field is set: each code is looked up as it is, one without a glyph is refused 9, and texts skip it. It is what
+    /// Rust's own default is, too.
     ///
     /// ```
     /// # use thalluskin::Mode;

@@ -83,14 +83,15 @@ impl<'a> Font<'a> {
         place::dimensions(self.bytes, self.rec)
     }
 
-    // Where and how large a character's glyph is drawn: `place::prep_char`. Refused 6, 9, 10, 11.
+    // Where and how large the glyph is drawn that shows a character, and the code that supplied it:
+    // `place::prep_char`. Refused 6, 9, 10, 11.
     pub fn prep_char(self, mode: Mode, code: CharCode) -> CharPrepared
         ensures { λ r. ⌜ r ≡ prepChar (now (self .entry .bytes)) (self .entry .rec) mode (code .0) ⌝ }
     {
         place::prep_char(self.bytes, self.rec, mode, code)
     }
 
-    // Draws a character's glyph: `glyphs::draw_char`. Refused 6, 15, 9, 10, 11, 13, 14, 16, and then no
+    // Draws the glyph that shows a character, and answers the code that supplied it: `glyphs::draw_char`. Refused 6, 15, 9, 10, 11, 13, 14, 16, and then no
     // pixel is coloured.
     pub fn draw_char(
         self,

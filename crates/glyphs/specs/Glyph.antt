@@ -20,7 +20,7 @@ abbrev pub placeOf : GlyphInfo → Place → Place
 placeOf i at =
     placeAt (at .p + at .stride * at .scale * i .«pad_top» + at .scale * i .«pad_left») (at .stride) (at .scale)
 
--- "each given width, height and pad at most 32,767", in every mode
+-- "each given width, height and pad at most 32,767", in each mode so far
 abbrev pub okInfo : Mode → GlyphInfo → Bool
 okInfo mode i = okPair (i .width) (i .height) && okPair (i .«pad_top») (i .«pad_left»)
 

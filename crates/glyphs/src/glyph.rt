@@ -33,7 +33,7 @@ pub fn place_of(info: GlyphInfo, start: usize, stride: u16, scale: u8) -> usize
     start + down + right
 }
 
-// Whether a given glyph's width, height and pads are within their limits, which are those of every mode.
+// Whether a given glyph's width, height and pads are within their mode's limits, the same in each mode so far.
 pub(crate) fn ok_info(mode: Mode, info: GlyphInfo) -> bool
     ensures { λ r. ⌜ r ≡ okInfo mode info ⌝ }
 {
@@ -147,12 +147,12 @@ pub fn glyph_check(
     }
 }
 
-// Draws a placed glyph from `start` on, lowered and moved right by its pads, and answers the rows drawn
-// and dropped; a glyph without a bitmap draws nothing and drops nothing. Refused, all with place 0 and no
-// pixel coloured: 6 for a record that fails its test with these bytes; 15 for a start, stride or scale
-// outside its limits (`outcome::ok_place`), or a width, height or pad over 32,767; 13 for a scan unit code
-// other than 0, 1, 2, or a scan unit wider than the row pad; 14 where a byte that holds columns of a drawn
-// row lies beyond the bitmap data; 16 where a set bit of a drawn row has a pixel beyond the buffer.
+// Draws a placed glyph from `start` on, lowered and moved right by its pads, alike in each mode so far, and answers the
+// rows drawn and dropped; a glyph without a bitmap draws nothing and drops nothing. Refused, all with place 0 and no
+// pixel coloured: 6 for a record that fails its test with these bytes; 15 for a start, stride or scale outside its
+// limits (`outcome::ok_place`), or a width, height or pad over 32,767; 13 for a scan unit code other than 0, 1, 2, or a
+// scan unit wider than the row pad; 14 where a byte that holds columns of a drawn row lies beyond the bitmap data; 16
+// where a set bit of a drawn row has a pixel beyond the buffer.
 pub fn draw_glyph(
     bytes: &[u8],
     rec: Record,

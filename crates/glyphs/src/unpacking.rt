@@ -62,13 +62,13 @@ pub fn unpack_check(
     }
 }
 
-// Unpacks a placed glyph from `start` on, lowered and moved right by its pads: stores 1 for each set bit of every whole
-// row byte, columns past the width included, in the order of the picture, and answers the rows; a glyph without a
-// bitmap stores nothing and answers 0. No row is cut. Refused, all with place 0 and no byte changed: 6 for a record
-// that fails its test with these bytes; 15 for a start or stride outside its limits (`outcome::ok_place`), or a width,
-// height or pad over 32,767; 13 for a scan unit code other than 0, 1, 2, or a scan unit wider than the row pad; 14
-// where a byte that holds columns of a row lies beyond the bitmap data; 16 where a set bit, columns past the width
-// included, lies beyond the buffer.
+// Unpacks a placed glyph from `start` on, lowered and moved right by its pads, alike in each mode so far: stores 1 for
+// each set bit of every whole row byte, columns past the width included, in the order of the picture, and answers the
+// rows; a glyph without a bitmap stores nothing and answers 0. No row is cut. Refused, all with place 0 and no byte
+// changed: 6 for a record that fails its test with these bytes; 15 for a start or stride outside its limits
+// (`outcome::ok_place`), or a width, height or pad over 32,767; 13 for a scan unit code other than 0, 1, 2, or a scan
+// unit wider than the row pad; 14 where a byte that holds columns of a row lies beyond the bitmap data; 16 where a set
+// bit, columns past the width included, lies beyond the buffer.
 pub fn unpack_glyph(
     bytes: &[u8],
     rec: Record,

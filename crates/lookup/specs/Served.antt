@@ -2,10 +2,10 @@
 -- whether it is the default, in the caller's mode: plain stays as it is; in default mode a code without a glyph takes the default code's
 -- glyph if that has one. [...] 9 in default mode only when the default code has no glyph either."
 use Prim.Native.Nat.{ℕ}
-use mathlib.Core.Bool.{Bool, true, false, cond}
+use mathlib.Core.Bool.{true, false, cond}
 use mathlib.Core.List.{List, [], _∷_}
 use lib.IntN.{ℤ, pos}
-use Rattle.reads.specs.Said.{Said, refusal, says, refuses}
+use Rattle.reads.specs.Said.{Said, refusal, says, refuses, bit}
 use Rattle.tables.specs.Fits.{tested}
 use Rattle.tables.specs.declared.EncodingData.{EncodingData}
 use Rattle.tables.specs.declared.Record.{Record}
@@ -45,11 +45,8 @@ served s c mode code = orElse code (glyphOf s c code) (standIn s c mode)
 unfoldable pub getGlyph : List ℕ → Record → Mode → ℕ → Served
 getGlyph s rec mode code = tested Served.Refused s rec (served s (rec .codes) mode code)
 
-abbrev pub flag : Bool → ℕ
-flag b = cond b 1 0
-
 abbrev pub supplierValues : Supplier → List ℤ
-supplierValues by = pos (by .code .0) ∷ pos (flag (by .«is_default»)) ∷ []
+supplierValues by = pos (by .code .0) ∷ bit (by .«is_default») ∷ []
 
 abbrev pub saidServed : Served → Said
 saidServed (Served.Glyph g by) = says (pos (g .0) ∷ supplierValues by)

@@ -1,6 +1,7 @@
 // The glyph that shows a character, in the caller's mode. A caller that does more with it asks in two steps, `glyph_of`
 // and then `or_stand_in` or `or_else`: each is small enough for the compiler to put into the caller, and a code with a
-// glyph, which is nearly every code, then costs what it does in the plain mode.
+// glyph, which is nearly every code, then costs what it does in the plain mode. `or_stand_in` looks the default code up
+// only where it is needed; `or_else` is for a text, which has asked before its first character.
 use crate::Found;
 use crate::Served;
 use crate::Supplier;
@@ -54,7 +55,7 @@ fn by_itself(g: GlyphIndex, code: CharCode) -> Served
     )
 }
 
-// A code's own glyph, or else the other, for a caller that asks for many codes and for what stands in once.
+// A code's own glyph, or else the other.
 pub fn or_else(code: CharCode, own: Found, other: Served) -> Served
     ensures { λ r. ⌜ r ≡ orElse (code .0) own other ⌝ }
 {

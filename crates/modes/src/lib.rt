@@ -3,7 +3,7 @@
 ghost use mathlib.Core.Path.{_≡_};
 ghost use Rattle.modes.specs.Modes.{plain, isKnown, modeOf};
 
-// Taken by every call that looks a glyph up or places one, after the font.
+// Taken by every call that looks a character up or draws or unpacks a placed glyph, after the font.
 pub struct Mode {
     // A code without a glyph is shown by the glyph of the font's default code, if that has one.
     pub default: bool,

@@ -16,7 +16,7 @@ use Rattle.lookup.proofs.Refusals.{serve-refusals}
 use Rattle.metrics.specs.Measure.{metricsOf, saidMeasured}
 use Rattle.metrics.specs.declared.Measured.{Measured}
 use Rattle.metrics.proofs.Refusals.{metrics-of-refusals}
-use Rattle.place.specs.Info.{placeable, boxed, withMetrics, infoOf, placedBy, withGlyph, prepared, ofPlacing, saidPrepared, saidPlaced}
+use Rattle.place.specs.Info.{placeable, boxed, withMetrics, infoOf, placedBy, withGlyph, prepared, ofPlacing, saidPrepared, saidCharPrepared}
 use Rattle.place.specs.declared.Prepared.{Prepared}
 
 module _ (s : List ℕ) where
@@ -28,13 +28,13 @@ module _ (s : List ℕ) where
     by (Measured.Refused r) h = wider refl h
 
   pub char-info-refusals : (codes : EncodingData) (mode : Mode) (metrics : MetricsData) (bounds : MetricsUnpacked) (code : ℕ)
-      → NumberedBy (9 ∷ ofPlacing) (saidPlaced (prepared s codes mode metrics bounds code))
+      → NumberedBy (9 ∷ ofPlacing) (saidCharPrepared (prepared s codes mode metrics bounds code))
   unfolding prepared
   char-info-refusals codes mode metrics bounds code = by (served s codes mode code) (serve-refusals s codes mode code) where
-    of : (p : Supplier) (x : Prepared) → NumberedBy ofPlacing (saidPrepared x) → NumberedBy (9 ∷ ofPlacing) (saidPlaced (placedBy p x))
+    of : (p : Supplier) (x : Prepared) → NumberedBy ofPlacing (saidPrepared x) → NumberedBy (9 ∷ ofPlacing) (saidCharPrepared (placedBy p x))
     of p (Prepared.Info i) h = has-values
     of p (Prepared.Refused r) h = one-more h
 
-    by : (x : Served) → NumberedBy (9 ∷ []) (saidServed x) → NumberedBy (9 ∷ ofPlacing) (saidPlaced (withGlyph x (λ g. infoOf s metrics bounds g)))
+    by : (x : Served) → NumberedBy (9 ∷ []) (saidServed x) → NumberedBy (9 ∷ ofPlacing) (saidCharPrepared (withGlyph x (λ g. infoOf s metrics bounds g)))
     by (Served.Glyph g p) h = of p (infoOf s metrics bounds g) (info-of-refusals metrics bounds g)
     by (Served.Refused r) h = wider refl h

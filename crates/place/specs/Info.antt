@@ -85,6 +85,6 @@ abbrev pub saidPrepared : Prepared → Said
 saidPrepared (Prepared.Info i) = says (infoValues i)
 saidPrepared (Prepared.Refused r) = refuses r
 
-abbrev pub saidPlaced : CharPrepared → Said
-saidPlaced (CharPrepared.Info i by) = says (infoValues i ++ supplierValues by)
-saidPlaced (CharPrepared.Refused r) = refuses r
+abbrev pub saidCharPrepared : CharPrepared → Said
+saidCharPrepared (CharPrepared.Info i by) = says (infoValues i ++ supplierValues by)
+saidCharPrepared (CharPrepared.Refused r) = refuses r

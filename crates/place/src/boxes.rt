@@ -85,7 +85,8 @@ pub fn info_of(s: &[u8], metrics: MetricsData, bounds: MetricsUnpacked, g: Glyph
     }
 }
 
-// A character's box under the maximum bounds, or 9, 10, 11. Bytes past the end read as 0.
+// The box of the glyph that shows a character, under the maximum bounds, and the code that supplied it, or 9, 10, 11.
+// Bytes past the end read as 0.
 pub fn char_info(
     s: &[u8],
     codes: EncodingData,

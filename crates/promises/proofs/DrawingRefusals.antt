@@ -23,7 +23,7 @@ use Rattle.bitmaps.specs.Unpack.{unscaled, wholeColumns, unpackedAt, saidUnpack
 use Rattle.bitmaps.specs.declared.Drawn.{Drawn}
 use Rattle.bitmaps.specs.declared.Unpacked.{Unpacked}
 use Rattle.place.specs.Bounds.{boundsOf, boundsHold}
-use Rattle.place.specs.Info.{infoIn, preparedIn, ofPlacing, saidPrepared, saidPlaced as saidPlacedChar}
+use Rattle.place.specs.Info.{infoIn, preparedIn, ofPlacing, saidPrepared, saidCharPrepared}
 use Rattle.place.specs.declared.GlyphInfo.{GlyphInfo}
 use Rattle.place.specs.declared.CharPrepared.{CharPrepared}
 use Rattle.place.specs.declared.Prepared.{Prepared}
@@ -34,7 +34,7 @@ use Rattle.glyphs.specs.Unpack.{glyphUnpacked, unpackGlyph}
 use Rattle.utf8.specs.Decode.{Char, decoded, charsOf, checkedText}
 use Rattle.utf8.specs.declared.Checked.{Checked}
 use Rattle.utf8.proofs.CheckedText.{refused-text}
-use Rattle.text.specs.Walk.{origin, placeInfo, placeFound, placed, placedDrawn, penAfter}
+use Rattle.text.specs.Walk.{origin, placeInfo, placeServed, placed, placedDrawn, penAfter}
 use Rattle.text.specs.Text.{afterChar, textFrom, readyText, ready, whenReady, drawString, saidText}
 use Rattle.text.specs.declared.Layout.{Layout}
 use Rattle.text.specs.declared.Pen.{Pen}
@@ -76,7 +76,7 @@ module _ (s : List ℕ) (rec : Record) (mode : Mode) (lay : Layout) (len : ℕ) 
   unfolding placed placedDrawn
   placed-refusals code pen =
       whichever saidPlaced (eqb code 13) has-values (whichever saidPlaced (eqb code 10) has-values (by (served s (rec .codes) mode code))) where
-        by : (x : Served) → NumberedBy (ofPlacing ++ ofDrawing) (saidPlaced (placeFound s rec lay pen x))
+        by : (x : Served) → NumberedBy (ofPlacing ++ ofDrawing) (saidPlaced (placeServed s rec lay pen x))
         by (Served.Glyph g p) = place-info pen (infoIn s rec g) (info-of-refusals s (rec .metrics) (boundsOf rec) g)
         by (Served.Refused r) = has-values
 
@@ -149,7 +149,7 @@ module _ (s : List ℕ) (rec : Record) where
     drawn-char i by (Drawn.Rows r) h = has-values
     drawn-char i by (Drawn.Refused r) h = wider refl h
 
-    placed-char : (x : CharPrepared) → NumberedBy (9 ∷ ofPlacing) (saidPlacedChar x) → NumberedBy (9 ∷ (ofPlacing ++ ofDrawing)) (saidWith x)
+    placed-char : (x : CharPrepared) → NumberedBy (9 ∷ ofPlacing) (saidCharPrepared x) → NumberedBy (9 ∷ (ofPlacing ++ ofDrawing)) (saidWith x)
     placed-char (CharPrepared.Info i by) h = drawn-char i by (glyphDrawn s (rec .bitmaps) i len at) (glyph-drawn-refusals s (rec .bitmaps) i len at)
     placed-char (CharPrepared.Refused r) h = wider refl h
 

@@ -32,7 +32,7 @@ use Rattle.bitmaps.specs.Unpack.{saidUnpacked}
 use Rattle.bitmaps.specs.declared.Drawn.{Drawn}
 use Rattle.bitmaps.specs.declared.Unpacked.{Unpacked}
 use Rattle.place.specs.Bounds.{dimensions, saidSized}
-use Rattle.place.specs.Info.{preparedIn, saidPlaced}
+use Rattle.place.specs.Info.{preparedIn, saidCharPrepared}
 use Rattle.place.specs.declared.Sized.{Sized}
 use Rattle.place.specs.declared.GlyphInfo.{GlyphInfo}
 use Rattle.place.specs.declared.CharPrepared.{CharPrepared}
@@ -109,7 +109,7 @@ extent-read : (x : Sized) → Answers (saidSized x) → saysExtent (extentAnswer
 extent-read (Sized.Dimensions d) h = refl
 extent-read (Sized.Refused r) h = a-refusal (r .number) (r .place) _ h
 
-info-read : (x : CharPrepared) → Answers (saidPlaced x) → saysInfo (infoAnswer x) ≡ saidPlaced x
+info-read : (x : CharPrepared) → Answers (saidCharPrepared x) → saysInfo (infoAnswer x) ≡ saidCharPrepared x
 info-read (CharPrepared.Info i by) h = refl
 info-read (CharPrepared.Refused r) h = a-refusal (r .number) (r .place) _ h
 
@@ -180,7 +180,7 @@ pub dimensions-says : (s : List ℕ) (rec : Record) → saysExtent (extentAnswer
 dimensions-says s rec = extent-read (dimensions s rec) (nought-answers refl (dimensions-refusals s rec .numbered))
 
 pub prep-char-says : (s : List ℕ) (rec : Record) (code mode : ℕ)
-    → let p = guarded CharPrepared.Refused s rec (isKnown mode) (preparedIn s rec (modeOf mode) code) in saysInfo (infoAnswer p) ≡ saidPlaced p
+    → let p = guarded CharPrepared.Refused s rec (isKnown mode) (preparedIn s rec (modeOf mode) code) in saysInfo (infoAnswer p) ≡ saidCharPrepared p
 prep-char-says s rec code mode =
     let p = guarded CharPrepared.Refused s rec (isKnown mode) (preparedIn s rec (modeOf mode) code) in
     info-read p (nought-answers refl (thalluskin-prep-char-refusals s rec code mode .numbered))

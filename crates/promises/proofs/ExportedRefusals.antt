@@ -10,7 +10,7 @@ use Rattle.lookup.specs.Served.{served, saidServed}
 use Rattle.lookup.specs.declared.Served.{Served}
 use Rattle.lookup.proofs.Refusals.{serve-refusals}
 use Rattle.place.specs.Bounds.{boundsOf}
-use Rattle.place.specs.Info.{preparedIn, ofPlacing, saidPlaced}
+use Rattle.place.specs.Info.{preparedIn, ofPlacing, saidCharPrepared}
 use Rattle.place.specs.declared.CharPrepared.{CharPrepared}
 use Rattle.place.proofs.Refusals.{char-info-refusals}
 use Rattle.promises.specs.Refusals.{Refusals}
@@ -23,6 +23,6 @@ module _ (s : List ℕ) (rec : Record) (code mode : ℕ) where
       guarded-refusals s rec saidServed Served.Refused (λ r. refl) (isKnown mode) _ refl (λ fits. serve-refusals s (rec .codes) (modeOf mode) code)
 
   pub thalluskin-prep-char-refusals :
-      Refusals s rec (6 ∷ 15 ∷ 9 ∷ ofPlacing) (saidPlaced (guarded CharPrepared.Refused s rec (isKnown mode) (preparedIn s rec (modeOf mode) code)))
+      Refusals s rec (6 ∷ 15 ∷ 9 ∷ ofPlacing) (saidCharPrepared (guarded CharPrepared.Refused s rec (isKnown mode) (preparedIn s rec (modeOf mode) code)))
   thalluskin-prep-char-refusals =
-      guarded-refusals s rec saidPlaced CharPrepared.Refused (λ r. refl) (isKnown mode) _ refl (λ fits. char-info-refusals s (rec .codes) (modeOf mode) (rec .metrics) (boundsOf rec) code)
+      guarded-refusals s rec saidCharPrepared CharPrepared.Refused (λ r. refl) (isKnown mode) _ refl (λ fits. char-info-refusals s (rec .codes) (modeOf mode) (rec .metrics) (boundsOf rec) code)

@@ -27,6 +27,7 @@ mod TextKeeps
 mod ServedTexts
 mod GivenF
 mod WhyCodes
+mod NoGlyph
 mod WhyFirst
 mod WhyDrawn
 mod WhyColoured

@@ -29,7 +29,7 @@ use Rattle.vet.specs.Vet.{vetted}
 use Rattle.vet.specs.declared.Vetted.{Vetted}
 use Rattle.vet.proofs.PassedCodes.{Usable, usable-info, passed-usable}
 use Rattle.vet.proofs.Verdict.{passes-when}
-use Rattle.text.specs.Walk.{wrapped, placeInfo, placeFound, placed, spot, drawnFrom}
+use Rattle.text.specs.Walk.{wrapped, placeInfo, placeServed, placed, spot, drawnFrom}
 use Rattle.text.specs.declared.Layout.{Layout}
 use Rattle.text.specs.declared.Pen.{Pen}
 use Rattle.text.specs.declared.Placed.{Placed}
@@ -78,7 +78,7 @@ module _ (s : List ℕ) (rec : Record) (lay : Layout) (len : ℕ) where
         subst (λ (q : Prepared). Only16 (placeInfo rec lay pen q)) (sym (usable-info s rec g u)) (usable-drawn (wrapped rec lay i pen) g u)
 
     -- the glyph that shows a character is that of a code, its own or the default one
-    served-only : (mode : Mode) (code : ℕ) (pen : Pen) (x : Served) → served s (rec .codes) mode code ≡ x → Only16 (placeFound s rec lay pen x)
+    served-only : (mode : Mode) (code : ℕ) (pen : Pen) (x : Served) → served s (rec .codes) mode code ≡ x → Only16 (placeServed s rec lay pen x)
     served-only mode code pen (Served.Glyph g by) e = glyph-only pen g (passed-usable s rec passed (by .code .0) g (supplied s rec mode code g by e))
     served-only mode code pen (Served.Refused r) e = tt
 

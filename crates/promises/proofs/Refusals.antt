@@ -23,7 +23,7 @@ use Rattle.metrics.specs.declared.Accelerated.{Accelerated}
 use Rattle.metrics.specs.declared.Measured.{Measured}
 use Rattle.metrics.proofs.Refusals.{metrics-of-refusals}
 use Rattle.place.specs.Bounds.{boundsOf, boundsHold, boundsSized, dimensions, saidSized}
-use Rattle.place.specs.Info.{prepChar, ofPlacing, saidPlaced}
+use Rattle.place.specs.Info.{prepChar, ofPlacing, saidCharPrepared}
 use Rattle.place.specs.declared.Sized.{Sized}
 use Rattle.place.specs.declared.CharPrepared.{CharPrepared}
 use Rattle.place.proofs.Refusals.{char-info-refusals}
@@ -70,10 +70,10 @@ module _ (s : List ℕ) (rec : Record) where
   dimensions-refusals =
       tested-refusals s rec saidSized Sized.Refused (λ r. refl) _ refl (λ fits. whichever saidSized (boundsHold (boundsOf rec)) has-values (has-number refl))
 
-  pub prep-char-refusals : (mode : Mode) (code : ℕ) → Refusals s rec (6 ∷ 9 ∷ ofPlacing) (saidPlaced (prepChar s rec mode code))
+  pub prep-char-refusals : (mode : Mode) (code : ℕ) → Refusals s rec (6 ∷ 9 ∷ ofPlacing) (saidCharPrepared (prepChar s rec mode code))
   unfolding prepChar
   prep-char-refusals mode code =
-      tested-refusals s rec saidPlaced CharPrepared.Refused (λ r. refl) _ refl (λ fits. char-info-refusals s (rec .codes) mode (rec .metrics) (boundsOf rec) code)
+      tested-refusals s rec saidCharPrepared CharPrepared.Refused (λ r. refl) _ refl (λ fits. char-info-refusals s (rec .codes) mode (rec .metrics) (boundsOf rec) code)
 
   because-values : (code len : ℕ) (at : Place) (x : Served) → NumberedBy [] (saidTold (servedReason s rec code len at x))
   because-values code len at (Served.Glyph g by) = has-values

@@ -1,7 +1,7 @@
 -- What lookup answers in a mode is what plain logic says, for every font and code: with which glyph, supplied by which code, and when with 9.
 use Prim.Native.Nat.{ℕ, _+_, _*_}
 use mathlib.Core.Path.{_≡_, refl, sym, ap, subst, _∙_}
-use mathlib.Core.Bool.{true}
+use mathlib.Core.Bool.{true, false}
 use mathlib.Core.List.{List}
 use mathlib.Core.Logic.{_⊎_, _↔_, inl, inr, ⊎-elim}
 use native.Mathlib.Omega.{arith}
@@ -15,7 +15,7 @@ use Rattle.tables.specs.declared.EncodingData.{EncodingData}
 use Rattle.tables.specs.declared.Record.{Record}
 use Rattle.modes.specs.declared.Mode.{Mode}
 use Rattle.lookup.specs.Lookup.{slotOf, noGlyph, glyphAt, glyphOf}
-use Rattle.lookup.specs.Served.{itself, theDefault, standIn, served}
+use Rattle.lookup.specs.Served.{itself, theDefault, suppliedBy, standIn, served}
 use Rattle.lookup.specs.declared.Found.{Found}
 use Rattle.lookup.specs.declared.Served.{Served}
 use Rattle.lookup.specs.declared.Slot.{Slot}
@@ -47,6 +47,9 @@ module _ (s : List ℕ) (rec : Record) where
         split (eqb entry 65535) (λ t. inl (rw (e, t) refl)) (λ t. inr (entry, rw (e, t) refl))
     by Slot.Nothing e = inl (rw e refl)
 
+  pub has-none : (code : ℕ) → glyphOf s c code ≡ noGlyph → HasNone s rec code
+  has-none code none g has = let z : _≡_ {A = ℕ} 0 1 = cc (sym has ∙ none) in omega arith
+
   pub no-glyph : (code : ℕ) → HasNone s rec code → glyphOf s c code ≡ noGlyph
   no-glyph code none = ⊎-elim (λ e. e) (λ (g, has). absurd (none g has)) (none-or-one code)
 
@@ -55,7 +58,7 @@ module _ (s : List ℕ) (rec : Record) where
     unfolding served
     own-served g has = rw has refl
 
-    default-served : mode .default ≡ true → glyphOf s c code ≡ noGlyph → (g : ℕ) → HasGlyph s rec (c .default) g
+    pub default-served : mode .default ≡ true → glyphOf s c code ≡ noGlyph → (g : ℕ) → HasGlyph s rec (c .default) g
         → served s c mode code ≡ Served.Glyph (record { 0 = g }) (theDefault c)
     unfolding served standIn
     default-served wanted none g has = rw (none, wanted, has) refl
@@ -64,6 +67,14 @@ module _ (s : List ℕ) (rec : Record) where
         → served s c mode code ≡ Served.Refused (refusal 9 0)
     unfolding served standIn
     none-served none default-none = split (mode .default) (λ t. rw (none, t, default-none t) refl) (λ t. rw (none, t) refl)
+
+    -- "plain stays as it is": the code's own glyph, supplied by itself
+    pub plain-served : mode .default ≡ false → served s c mode code ≡ suppliedBy (itself code) (glyphOf s c code)
+    unfolding served standIn
+    plain-served off = by (none-or-one code) where
+      by : (glyphOf s c code ≡ noGlyph) ⊎ ((g : ℕ) × HasGlyph s rec code g) → served s c mode code ≡ suppliedBy (itself code) (glyphOf s c code)
+      by (inl none) = rw (none, off) refl
+      by (inr (g, has)) = rw has refl
 
     -- 9 exactly if neither the code has a glyph nor, in default mode, the default code
     pub unserved-exactly : (served s c mode code ≡ Served.Refused (refusal 9 0)) ↔ Unshown s rec mode code
@@ -82,10 +93,10 @@ module _ (s : List ℕ) (rec : Record) where
     pub served-or-9 : (served s c mode code ≡ Served.Refused (refusal 9 0)) ⊎ ((g : ℕ) × (by : Supplier) × ShownBy s rec mode code g by)
     served-or-9 =
         ⊎-elim
-        (λ none. let has-none : HasNone s rec code = λ g has. let z : _≡_ {A = ℕ} 0 1 = cc (sym has ∙ none) in omega arith in
+        (λ none.
         split (mode .default)
         (λ t. ⊎-elim (λ default-none. inl (none-served none (λ wanted. default-none)))
-        (λ (g, has). inr (g, theDefault c, inr (record { wanted = t; has-none = has-none; default-has = has; is = refl })))
+        (λ (g, has). inr (g, theDefault c, inr (record { wanted = t; has-none = has-none code none; default-has = has; is = refl })))
         (none-or-one (c .default)))
         (λ t. inl (none-served none (λ wanted. let z : _≡_ {A = ℕ} 0 1 = cc (sym wanted ∙ t) in absurd (omega arith)))))
         (λ (g, has). inr (g, itself code, inl (record { has = has; is = refl })))

@@ -1,4 +1,4 @@
--- The tests of a code against its table's bounds, in plain logic and back, and what is left inside them.
+-- The tests of a code against its table's bounds, in plain logic and back, and what they say of its glyph.
 use Prim.Native.Nat.{ℕ, _+_, _-_, _*_, _/_, _%_, _≤_}
 use mathlib.Core.Path.{_≡_, sym, _∙_}
 use mathlib.Core.Bool.{true, false, not}
@@ -12,7 +12,7 @@ use Rattle.reads.specs.Range.{between}
 use Rattle.reads.specs.declared.Refusal.{Refusal}
 use Rattle.reads.proofs.Tests.{never, split, both}
 use Rattle.tables.specs.declared.EncodingData.{EncodingData}
-use Rattle.lookup.specs.Lookup.{oneByte, slotOf, glyphOf}
+use Rattle.lookup.specs.Lookup.{oneByte, slotOf, noGlyph, glyphOf}
 use Rattle.lookup.specs.declared.Found.{Found}
 use Rattle.lookup.specs.declared.Slot.{Slot}
 use Rattle.why.specs.Codes.{firstOutside, secondOutside}
@@ -91,3 +91,27 @@ module _ (c : EncodingData) (code : ℕ) where
         let entry = u16At (c .big) s (c .entries + 2 * i) in
         split (eqb entry 65535) (λ t. eqb-true entry 65535 t)
         (λ t. let other : Found.Glyph (record { 0 = entry }) ≡ Found.Refused r = rw (stands, t) at e in let z : _≡_ {A = ℕ} 0 1 = cc in absurd (omega arith))
+
+    pub empty-none : u16At (c .big) s (c .entries + 2 * i) ≡ 65535 → glyphOf s c code ≡ noGlyph
+    unfolding glyphOf
+    empty-none is = rw (stands, eq-eqb (u16At (c .big) s (c .entries + 2 * i)) 65535 is)
+
+  -- outside of them it has none
+  pub above-none : (s : List ℕ) → ltb 65535 code ≡ true → glyphOf s c code ≡ noGlyph
+  unfolding glyphOf slotOf
+  above-none s far = rw far
+
+  pub first-none : (s : List ℕ) → ltb 65535 code ≡ false → firstOutside c code ≡ true → glyphOf s c code ≡ noGlyph
+  unfolding glyphOf slotOf firstOutside
+  first-none s near e =
+      split (oneByte c) (λ t. never (rw t at e))
+      (λ t. split (between (c .low1) (c .high1) (code / 256)) (λ u. never (rw (t, u) at e)) (λ u. rw (near, t, u)))
+
+  pub second-none : (s : List ℕ) → ltb 65535 code ≡ false → firstOutside c code ≡ false → secondOutside c code ≡ true → glyphOf s c code ≡ noGlyph
+  unfolding glyphOf slotOf firstOutside secondOutside
+  second-none s near f e =
+      split (oneByte c)
+      (λ t. split (between (c .low2) (c .high2) code) (λ u. never (rw (t, u) at e)) (λ u. rw (near, t, u)))
+      (λ t. split (between (c .low1) (c .high1) (code / 256))
+      (λ u. split (between (c .low2) (c .high2) (code % 256)) (λ v. never (rw (t, v) at e)) (λ v. rw (near, t, u, v)))
+      (λ u. never (sym (rw (t, u) at f))))

@@ -39,10 +39,10 @@ module _ (s : List ℕ) (rec : Record) (mode : Mode) (code : ℕ) where
     pub default-none : mode .default ≡ true → HasNone s rec (rec .codes .default)
 
 -- a code that a text need not look up, or one with a glyph of its own
-abbrev pub Looked : List ℕ → Record → ℕ → Type 0
-Looked s rec code = (code ≡ 13) ⊎ ((code ≡ 10) ⊎ ((g : ℕ) × HasGlyph s rec code g))
+abbrev pub OwnOrBreak : List ℕ → Record → ℕ → Type 0
+OwnOrBreak s rec code = (code ≡ 13) ⊎ ((code ≡ 10) ⊎ ((g : ℕ) × HasGlyph s rec code g))
 
 -- "a text whose every code has a glyph"
-abbrev pub AllLooked : List ℕ → Record → List Char → Type 0
-AllLooked s rec [] = Unit {0}
-AllLooked s rec (c ∷ cs) = Looked s rec (c .code) × AllLooked s rec cs
+abbrev pub AllOwnOrBreak : List ℕ → Record → List Char → Type 0
+AllOwnOrBreak s rec [] = Unit {0}
+AllOwnOrBreak s rec (c ∷ cs) = OwnOrBreak s rec (c .code) × AllOwnOrBreak s rec cs

@@ -59,6 +59,10 @@ pub record EntryEmpty (s : List ℕ) (c : EncodingData) (code : ℕ) : Type 0 wh
   pub stands : slotOf c code ≡ Slot.At index
   pub empty : u16At (c .big) s (c .entries + 2 * index) ≡ 65535
 
+-- one of the four, which are why a code has no glyph
+abbrev pub WithoutGlyph : List ℕ → EncodingData → ℕ → Type 0
+WithoutGlyph s c code = (65535 < code) ⊎ (FirstOutside c code ⊎ (SecondOutside c code ⊎ EntryEmpty s c code))
+
 -- ---- a glyph, drawn with `at` into `len` pixels
 
 abbrev pub boxIn : List ℕ → Record → ℕ → GlyphInfo

@@ -28,7 +28,7 @@ use Rattle.utf8.specs.Step.{stepAt}
 use Rattle.utf8.specs.declared.Checked.{Checked}
 use Rattle.utf8.specs.declared.Step.{Step}
 use Rattle.utf8.proofs.Walk.{step-within, Left, left-end, left-bad, left-char, left-all}
-use Rattle.text.specs.Walk.{origin, advanceOf, moved, wrapOf, wrapped, placeInfo, placeFound, placed, placedDrawn, penAfter, inPlaced}
+use Rattle.text.specs.Walk.{origin, advanceOf, moved, wrapOf, wrapped, placeInfo, placeServed, placed, placedDrawn, penAfter, inPlaced}
 use Rattle.text.specs.Text.{afterChar, textFrom, inText, readyText, ready, whenReady, drawString, stringLeaves}
 use Rattle.text.specs.Within.{Settled, PenIn, Moved, placedPen, Readable}
 use Rattle.text.specs.declared.Layout.{Layout}
@@ -60,7 +60,7 @@ module _ (s : List ℕ) (octets : Octets s) (rec : Record) (mode : Mode) where
         let Q : Prepared → Type 0 = λ x. Narrow (placeInfo rec lay pen x) in
         either P (leb (rec .metrics .count) (g .0)) tt (either Q (placeable m (boundsOf rec .ascent)) (width-small s octets (rec .metrics) (g .0)) tt)
 
-    found-narrow : (x : Served) → Narrow (placeFound s rec lay pen x)
+    found-narrow : (x : Served) → Narrow (placeServed s rec lay pen x)
     found-narrow (Served.Glyph g by) = info-narrow g
     found-narrow (Served.Refused r) = tt
 
@@ -135,7 +135,7 @@ module _ (s : List ℕ) (octets : Octets s) (rec : Record) (mode : Mode) where
         info-same (Prepared.Info i) h = ap (λ (q : Pen). Placed.Glyph q i) (wrapped-same i h)
         info-same (Prepared.Refused r) h = refl
 
-        found-same : (x : Served) → placeFound s rec lay pen x ≡ placeFound s rec free pen x
+        found-same : (x : Served) → placeServed s rec lay pen x ≡ placeServed s rec free pen x
         found-same (Served.Glyph g by) = info-same (infoIn s rec g) (info-narrow lay pen g)
         found-same (Served.Refused r) = refl
 

@@ -62,16 +62,16 @@ placeInfo rec lay pen (Prepared.Info i) = Placed.Glyph (wrapped rec lay i pen) i
 placeInfo rec lay pen (Prepared.Refused r) = Placed.Refused (r .number)
 
 -- "a code without glyph is skipped"
-abbrev pub placeFound : List ℕ → Record → Layout → Pen → Served → Placed
-placeFound s rec lay pen (Served.Glyph g by) = placeInfo rec lay pen (infoIn s rec g)
-placeFound s rec lay pen (Served.Refused r) = Placed.Skip pen
+abbrev pub placeServed : List ℕ → Record → Layout → Pen → Served → Placed
+placeServed s rec lay pen (Served.Glyph g by) = placeInfo rec lay pen (infoIn s rec g)
+placeServed s rec lay pen (Served.Refused r) = Placed.Skip pen
 
 -- what a character does with the pen here
 unfoldable pub placed : List ℕ → Record → Mode → Layout → ℕ → Pen → Placed
 placed s rec mode lay code pen =
     cond (eqb code 13) (Placed.Skip pen)
     (cond (eqb code 10) (Placed.Skip (newline (lineHeight rec (lay .scale)) pen))
-    (placeFound s rec lay pen (served s (rec .codes) mode code)))
+    (placeServed s rec lay pen (served s (rec .codes) mode code)))
 
 -- "draw at start + y × stride + x"
 abbrev pub spot : Layout → Pen → Place

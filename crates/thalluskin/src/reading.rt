@@ -35,7 +35,7 @@ use tables::Record;
 use tables::guard;
 use tables::record_fits;
 ghost use mathlib.Core.Path.{_≡_};
-ghost use mathlib.Core.Bool.{true, false, cond};
+ghost use mathlib.Core.Bool.{cond};
 ghost use Rattle.font.specs.Shown.{recordOf};
 ghost use Rattle.font.specs.declared.Reading.{Reading};
 ghost use Rattle.lookup.specs.Served.{served};

@@ -70,7 +70,7 @@ codeReason c code =
     (cond (firstOutside c code) Reason.FirstByte
     (cond (secondOutside c code) Reason.SecondByte Reason.EmptyEntry))
 
--- "R-1's first four reasons only with 9", and of the code asked for; the others of the glyph, which that code supplied
+-- "R-1's first four reasons only with 9", and of the code asked for; the others of the glyph, with the code that supplied it
 abbrev pub servedReason : List ℕ → Record → ℕ → ℕ → Place → Served → Told
 servedReason s rec code len at (Served.Glyph g by) = Told.Because (glyphReason s rec g len at) by
 servedReason s rec code len at (Served.Refused r) = Told.Because (codeReason (rec .codes) code) (itself code)

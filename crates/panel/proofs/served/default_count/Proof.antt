@@ -1,7 +1,7 @@
 -- What is counted and what is left make the whole count.
 use Prim.Native.Nat.{ℕ, _+_, _-_, _^_, _<_, _≤_}
 use mathlib.Core.Path.{_≡_, refl, sym, ap, _∙_}
-use mathlib.Core.Bool.{Bool, true, false}
+use mathlib.Core.Bool.{Bool, true, false, cond}
 use mathlib.Core.List.{List, [], _∷_}
 use lib.ListN.{length}
 use native.Mathlib.Omega.{arith}
@@ -11,7 +11,7 @@ use Rattle.reads.specs.declared.CharCode.{CharCode}
 use Rattle.reads.specs.declared.Refusal.{Refusal}
 use Rattle.tables.specs.declared.EncodingData.{EncodingData}
 use Rattle.modes.specs.declared.Mode.{Mode}
-use Rattle.lookup.specs.Served.{served, flag}
+use Rattle.lookup.specs.Served.{served}
 use Rattle.lookup.specs.declared.Served.{Served}
 use Rattle.utf8.specs.Decode.{Char, decoded, chars}
 use Rattle.utf8.specs.Step.{stepAt}
@@ -31,7 +31,7 @@ record Counted (s : List ℕ) (c : EncodingData) (mode : Mode) (text : List ℕ)
   pub few : n ≤ i
   pub adds-up : (cs : List Char) → decoded text ≡ chars cs → AddsUp s c mode text i n cs
 
-in-number : (b : Bool) → boolByte b ≡ flag b
+in-number : (b : Bool) → boolByte b ≡ cond b 1 0
 in-number true = refl
 in-number false = refl
 
@@ -44,7 +44,7 @@ module _ (s : List ℕ) (c : EncodingData) (mode : Mode) (text : List ℕ) where
   counted-first = record { few = omega arith; adds-up = λ cs e. (cs, left-all text cs e, omega arith) }
 
   one-more : (i k : ℕ) (rest : List Char)
-      → defaultCount s c mode (record { byte = i; code = k } ∷ rest) ≡ flag (byDefault k (served s c mode k)) + defaultCount s c mode rest
+      → defaultCount s c mode (record { byte = i; code = k } ∷ rest) ≡ cond (byDefault k (served s c mode k)) 1 0 + defaultCount s c mode rest
   unfolding defaultCount
   one-more i k rest = refl
 
@@ -67,15 +67,15 @@ module _ (s : List ℕ) (c : EncodingData) (mode : Mode) (text : List ℕ) where
         few = omega (arith, now .few, ends code next read, one-at-most more);
         adds-up = λ cs e. after cs (now .adds-up cs e);
       } where
-        counts : boolByte more ≡ flag (byDefault (code .0) (served s c mode (code .0)))
-        counts = in-number more ∙ ap flag (more-is ∙ ap (byDefault (code .0)) found-is)
+        counts : boolByte more ≡ cond (byDefault (code .0) (served s c mode (code .0))) 1 0
+        counts = in-number more ∙ ap (λ (b : Bool). cond b 1 0) (more-is ∙ ap (byDefault (code .0)) found-is)
 
         after : (cs : List Char) → AddsUp s c mode text i n cs → AddsUp s c mode text next (n + boolByte more) cs
         after cs (rest, left, sum) = on (left-char text i rest code next left (sym here-is ∙ read)) where
           on : (others : List Char) × (rest ≡ record { byte = i; code = code .0 } ∷ others) × Left text next others
               → AddsUp s c mode text next (n + boolByte more) cs
           on (others, is, left) =
-              let split : defaultCount s c mode rest ≡ flag (byDefault (code .0) (served s c mode (code .0))) + defaultCount s c mode others
+              let split : defaultCount s c mode rest ≡ cond (byDefault (code .0) (served s c mode (code .0))) 1 0 + defaultCount s c mode others
               = ap (defaultCount s c mode) is ∙ one-more i (code .0) others in
               (others, left, omega (arith, sum, split, counts))
 
