@@ -1,11 +1,10 @@
 -- Why a code has no glyph: exactly for one of the first four reasons. So these are true wherever what they say is, but for default mode with a
 -- default code that has a glyph; and a code above 65,535 takes the default like any other.
 use Prim.Native.Nat.{ℕ, _<_}
-use mathlib.Core.Path.{_≡_, sym, _∙_}
-use mathlib.Core.Bool.{true, false}
+use mathlib.Core.Path.{_≡_}
+use mathlib.Core.Bool.{true}
 use mathlib.Core.List.{List}
 use mathlib.Core.Logic.{_↔_, inl, inr, ⊎-elim}
-use native.Mathlib.Omega.{arith}
 use lib.Dec.{ltb}
 use borrow.Author.Tests.{lt-ltb, ltb-true}
 use Rattle.reads.specs.Said.{refusal}
@@ -13,12 +12,11 @@ use Rattle.reads.proofs.Tests.{split}
 use Rattle.tables.specs.declared.EncodingData.{EncodingData}
 use Rattle.tables.specs.declared.Record.{Record}
 use Rattle.modes.specs.declared.Mode.{Mode}
-use Rattle.lookup.specs.Lookup.{noGlyph, glyphOf}
 use Rattle.lookup.specs.Served.{theDefault, served}
 use Rattle.lookup.specs.declared.Served.{Served}
 use Rattle.why.specs.Codes.{firstOutside, secondOutside}
 use Rattle.promises.specs.Passing.{HasGlyph}
-use Rattle.promises.specs.Serving.{HasNone, Unshown}
+use Rattle.promises.specs.Serving.{HasNone}
 use Rattle.promises.specs.Why.{FirstOutside, SecondOutside, EntryEmpty, WithoutGlyph, OfCode}
 use Rattle.promises.proofs.Serving.{has-none, no-glyph, default-served}
 use Rattle.promises.proofs.WhyCodes.{first-out, first-in, second-out, second-in, inside-slot, entry-empty, empty-none, above-none, first-none, second-none}
