@@ -44,7 +44,7 @@ pub fn fill_bytes(buf: &mut [u8])
 
 // What was seen so far: whether any pixel changed, whether one of them has another colour than it should, and
 // the first and the last pixel of the run that the pixel before this one is in, if it is in one.
-#[derive(Drop)]
+#[derive(Clone, Copy)]
 struct Seen {
     any: bool,
     other: bool,

@@ -1,5 +1,7 @@
 // What the programs share: words, numbers and codes on standard output, the files that arguments name, and buffers
 // that have known values before a call.
+#![tactic(auto)]
+
 mod buffers;
 mod codes;
 mod files;

@@ -1,4 +1,6 @@
 // The dump of each file that an argument names: what `dump` writes for it, after its name.
+#![tactic(auto)]
+
 ghost use Rattle.std.specs.Prelude.{◌≡◌, length};
 
 // Room for the longest file of data/ and a byte more. Its length comes from a law, so that it need not be counted.

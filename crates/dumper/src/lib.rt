@@ -1,4 +1,6 @@
 // The dump of a text: hexadecimal lines in, frames out on standard output.
+#![tactic(auto)]
+
 ghost use Rattle.std.specs.Prelude.{◌≡◌, ◌≤◌, length};
 ghost use Rattle.vet.specs.Vet.{vetted};
 ghost use Rattle.frames.specs.Dump.{vetted_number, dump_number};

@@ -1,6 +1,8 @@
 // The view of a font: its bytes and its record in one value, to ask the rest of the library by. The
 // functions of the view take it apart and call the functions of the same name on bytes and record; they
 // answer and refuse as those do. Beside it are functions that take a font's bytes alone.
+#![tactic(auto)]
+
 mod shown;
 
 ghost use Rattle.std.specs.Prelude.{◌≡◌, length};
@@ -24,7 +26,7 @@ use tables::Record;
 use text::{TextDrawn, Wrap};
 
 // A font's bytes, lent for as long as the view is used, with the record that was read from them.
-#[derive(Drop)]
+#[derive(Clone, Copy)]
 pub struct Font<'a> {
     pub bytes: &'a [u8],
     pub rec: Record,
@@ -32,7 +34,7 @@ pub struct Font<'a> {
 
 // How a font's bytes are read where no record is given: as `load::load_pcf` does, as `load::load_strict`
 // does, or as `vet::vet` does.
-#[derive(Drop)]
+#[derive(Clone, Copy)]
 pub enum Reading {
     Tolerant,
     Strict,

@@ -1,5 +1,7 @@
 // What the dump prints, written into a lent buffer: specs/Whole.antt says which code has a frame,
 // specs/Frames.antt what a frame is, specs/Put.antt what writing one leaves, specs/Dump.antt the whole output.
+#![tactic(auto)]
+
 mod digits;
 mod frame_line;
 mod glyph_rows;
@@ -16,7 +18,7 @@ use tables::{Record, record_fits};
 use whole::whole_glyph;
 
 // How many bytes a line has, or why it was not written.
-#[derive(Drop)]
+#[derive(Clone, Copy)]
 pub enum Printed {
     Bytes(usize),
     Refused(Refusal),

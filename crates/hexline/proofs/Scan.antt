@@ -5,7 +5,7 @@ use native.Mathlib.Nat.{add-zero, zero-add}
 use native.Mathlib.Numerals.{add-one}
 use native.Mathlib.Omega.{arith}
 use mathlib.Core.Path.{◌≡◌, refl, sym, ap, ◌∙◌}
-use mathlib.Core.Bool.{Bool, cond, ◌&&◌, and_true, and-false}
+use mathlib.Core.Bool.{Bool, cond, ◌&&◌, and-true, and-false}
 use mathlib.Core.List.{List, [], ◌∷◌}
 use lib.ListN.{length, drop, get_or, drop_of_length-le}
 use lib.Seq.{drop-cons}
@@ -59,7 +59,7 @@ onward t k n d = line_on (lines_of t).ended (lines_of t).rest k n d
 
 no_digits : (ls : List (List ℕ)) (rest : List ℕ) (k n : ℕ) → line_on ls rest k n 0 ≡ bytes_from ls rest k n
 unfolding line_on bytes_from good_line
-no_digits [] rest k n = rw (and_true (is_empty rest))
+no_digits [] rest k n = rw (and-true (is_empty rest))
 no_digits (l ∷ ls) rest k n = rw (zero-add (length l))
 
 pub next_character : (s : List ℕ) (i : ℕ) → i < length s → drop i s ≡ get_or s i 0 ∷ drop (i + 1) s
@@ -117,7 +117,7 @@ module _ (s : List ℕ) (line n d i : ℕ) (now : Reading s line n d i) where
           ∙ rw (
             eq-eqb (get_or s i 0) 10 newline,
             add-zero d,
-            and_true (between 2 64 d && eqb (d % 2) 0),
+            and-true (between 2 64 d && eqb (d % 2) 0),
             no_digits later.ended later.rest (line + 1) (n + d / 2),
           )
 

@@ -1,4 +1,6 @@
 // Font bytes as lines of hexadecimal digits: the dump's input.
+#![tactic(auto)]
+
 ghost use Rattle.std.specs.Prelude.{◌≡◌, ◌≤◌, length};
 ghost use Rattle.hexline.specs.Lines.{digit_of, bad_line, hex_read, hex_bytes};
 ghost use Rattle.hexline.specs.Fill.{hex_into, hex_leaves};
@@ -6,7 +8,7 @@ ghost use Rattle.hexline.specs.Fill.{hex_into, hex_leaves};
 use reads::Refusal;
 
 // How many bytes the lines have, or 20 with the line's number; 15 where a buffer is too short.
-#[derive(Drop)]
+#[derive(Clone, Copy)]
 pub enum HexRead {
     Bytes(usize),
     Refused(Refusal),

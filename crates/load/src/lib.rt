@@ -1,4 +1,6 @@
 // Loading: the directory and the tables it names, to a record or a refusal: 1 to 8, and in strict loading 27.
+#![tactic(auto)]
+
 mod blanks;
 mod gather;
 
@@ -14,14 +16,14 @@ use tables::{
 };
 
 // What loading a file gives: the font's record, to be used with the same bytes.
-#[derive(Drop)]
+#[derive(Clone, Copy)]
 pub enum Loaded {
     Font(Record),
     Refused(Refusal),
 }
 
 // Which of the six kinds of table the directory has given so far.
-#[derive(Drop)]
+#[derive(Clone, Copy)]
 pub struct Kinds {
     pub props: bool,
     pub accel: bool,
@@ -32,14 +34,14 @@ pub struct Kinds {
 }
 
 // What the directory has given so far: the last table of each kind, and which kinds there were.
-#[derive(Drop)]
+#[derive(Clone, Copy)]
 pub struct Gathered {
     pub tables: Record,
     pub kinds: Kinds,
 }
 
 // What the walk has after one more entry, or that entry's refusal number.
-#[derive(Drop)]
+#[derive(Clone, Copy)]
 pub enum Entered {
     Next(Gathered),
     Refused(u8),

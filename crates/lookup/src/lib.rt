@@ -1,4 +1,6 @@
 // From a character code to a glyph.
+#![tactic(auto)]
+
 mod serving;
 
 ghost use Rattle.std.specs.Prelude.{◌≡◌};
@@ -10,7 +12,7 @@ pub use serving::{get_glyph, or_else, or_stand_in, serve, stand_in};
 use tables::EncodingData;
 
 // A code's own glyph.
-#[derive(Drop)]
+#[derive(Clone, Copy)]
 pub enum Found {
     Glyph(GlyphIndex),
     Refused(Refusal),
@@ -19,21 +21,21 @@ pub enum Found {
 // The code that supplied a glyph: the one asked for, or the font's default code, which stands in for a code without a
 // glyph.
 #[repr(C)]
-#[derive(Drop)]
+#[derive(Clone, Copy)]
 pub struct Supplier {
     pub code: CharCode,
     pub is_default: bool,
 }
 
 // The glyph that shows a character, and the code that supplied it.
-#[derive(Drop)]
+#[derive(Clone, Copy)]
 pub enum Served {
     Glyph(GlyphIndex, Supplier),
     Refused(Refusal),
 }
 
 // Which entry of the code table a code has.
-#[derive(Drop)]
+#[derive(Clone, Copy)]
 pub enum Slot {
     At(u32),
     Nothing,
@@ -41,7 +43,7 @@ pub enum Slot {
 
 // The codes that may have a glyph: from `low` on, up to but not with `end`.
 #[repr(C)]
-#[derive(Drop)]
+#[derive(Clone, Copy)]
 pub struct CodeRange {
     pub low: CharCode,
     pub end: CharCode,

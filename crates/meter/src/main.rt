@@ -1,5 +1,7 @@
 // An example: what a meter's firmware asks of the library. Standard input has a font file; the program says
 // whether the caretaker may copy the page, once for a panel that is high enough and once for one that is not.
+#![tactic(auto)]
+
 use font::Reading;
 use load::Loaded;
 use lookup::Served;

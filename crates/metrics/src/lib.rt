@@ -1,4 +1,6 @@
 // A glyph's metrics, and the accelerators with the bounds of all glyphs.
+#![tactic(auto)]
+
 ghost use Rattle.std.specs.Prelude.{◌≡◌, ◌+◌, ◌≤◌, length};
 ghost use Rattle.tables.specs.Metrics.{narrow_at};
 ghost use Rattle.metrics.specs.Measure.{measured_at, metrics_of, get_metrics, get_accelerators};
@@ -10,14 +12,14 @@ use tables::{
 };
 
 // The metrics of a glyph.
-#[derive(Drop)]
+#[derive(Clone, Copy)]
 pub enum Measured {
     Metrics(MetricsUnpacked),
     Refused(Refusal),
 }
 
 // What the font says of all its glyphs together.
-#[derive(Drop)]
+#[derive(Clone, Copy)]
 pub enum Accelerated {
     Accelerators(AcceleratorUnpacked),
     Refused(Refusal),

@@ -1,10 +1,12 @@
 // The caller's choices of how characters are looked up and placed. Each is a field; with every field false a call does
 // what document 01 says.
+#![tactic(auto)]
+
 ghost use Rattle.std.specs.Prelude.{◌≡◌};
 ghost use Rattle.modes.specs.Modes.{plain, is_known, mode_of};
 
 // Taken by every call that looks a character up or draws or unpacks a placed glyph, after the font.
-#[derive(Drop)]
+#[derive(Clone, Copy)]
 pub struct Mode {
     // A code without a glyph is shown by the glyph of the font's default code, if that has one.
     pub default: bool,

@@ -1,4 +1,6 @@
 // Strings of a font, as parts of its own bytes, and the names of its glyphs.
+#![tactic(auto)]
+
 mod strings;
 
 ghost use Rattle.std.specs.Prelude.{◌≡◌};
@@ -11,21 +13,21 @@ use tables::{GlyphNameData, Record, record_fits};
 
 // A part of the font's bytes: `len` of them from `start` on.
 #[repr(C)]
-#[derive(Drop)]
+#[derive(Clone, Copy)]
 pub struct Span {
     pub start: usize,
     pub len: usize,
 }
 
 // Where a name, or another string of the font, stands in its bytes.
-#[derive(Drop)]
+#[derive(Clone, Copy)]
 pub enum Named {
     Name(Span),
     Refused(Refusal),
 }
 
 // How many bytes stand before the first zero byte.
-#[derive(Drop)]
+#[derive(Clone, Copy)]
 pub enum Zero {
     After(usize),
     Nothing,

@@ -1,5 +1,7 @@
 // What drawing or unpacking a bitmap answers, from the buffer's length alone: the dry run, and the tests
 // that every drawing makes before its first pixel. Nothing is coloured here.
+#![tactic(auto)]
+
 mod check;
 mod past;
 

@@ -17,7 +17,7 @@ pub(crate) fn text_size(pages: &[u8], at: usize) -> u32 {
     u32_at(pages, at, 4, false)
 }
 
-#[derive(Drop)]
+#[derive(Clone, Copy)]
 pub(crate) struct Asked {
     pub(crate) len: usize,
     pub(crate) stride: usize,

@@ -1,6 +1,8 @@
 // Draws the pages that standard input asks for through the view of a font, and prints what each leaves in its
 // buffer as rows of dots. The input has the font's length, 4 bytes with the least significant first, the font, and
 // then one page after the other; see `asked`.
+#![tactic(auto)]
+
 mod asked;
 mod drawn;
 mod quoted;

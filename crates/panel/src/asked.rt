@@ -13,7 +13,7 @@ pub(crate) const HEAD: usize = 32;
 pub(crate) const PICTURE: u32 = 1;
 
 // `len` is width × height, `mode` the number that `modes::mode_of` takes, `text` the text's length.
-#[derive(Drop)]
+#[derive(Clone, Copy)]
 pub(crate) struct Request {
     pub(crate) kind: u32,
     pub(crate) width: usize,
@@ -25,7 +25,7 @@ pub(crate) struct Request {
     pub(crate) text: u32,
 }
 
-#[derive(Drop)]
+#[derive(Clone, Copy)]
 pub(crate) enum Asked {
     For(Request),
     Bad,

@@ -1,5 +1,7 @@
 // Draws a text with a font on a panel and prints the panel, as half blocks or as a picture. Standard input
 // has what is asked, the text and the font; see `asked`.
+#![tactic(auto)]
+
 mod asked;
 mod blocks;
 mod lines;
@@ -30,7 +32,7 @@ const PIXELS: usize = 65536;
 const COLOUR: u32 = 1;
 
 // What came of a request: the text's rows and the font's codes, or a refusal of the font or the text.
-#[derive(Drop)]
+#[derive(Clone, Copy)]
 enum Shown {
     Done(TextRows, EncodingData),
     Font(Refusal),

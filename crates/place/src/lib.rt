@@ -1,4 +1,6 @@
 // A character placed: its glyph's box under the bounds of all glyphs.
+#![tactic(auto)]
+
 mod bounds;
 mod boxes;
 
@@ -10,7 +12,7 @@ use reads::{GlyphIndex, Refusal};
 // A glyph's bitmap is `width` wide and `height` high, and stands `pad_top` below the line's top and
 // `pad_left` right of the pen.
 #[repr(C)]
-#[derive(Drop)]
+#[derive(Clone, Copy)]
 pub struct GlyphInfo {
     pub glyph: GlyphIndex,
     pub width: u16,
@@ -21,28 +23,28 @@ pub struct GlyphInfo {
 
 // The maximum bounds' height and width, in 000's order.
 #[repr(C)]
-#[derive(Drop)]
+#[derive(Clone, Copy)]
 pub struct Extent {
     pub height: usize,
     pub width: usize,
 }
 
 // The height and width of the bounds.
-#[derive(Drop)]
+#[derive(Clone, Copy)]
 pub enum Sized {
     Dimensions(Extent),
     Refused(Refusal),
 }
 
 // A glyph, placed.
-#[derive(Drop)]
+#[derive(Clone, Copy)]
 pub enum Prepared {
     Info(GlyphInfo),
     Refused(Refusal),
 }
 
 // A character's glyph, placed, and the code that supplied it.
-#[derive(Drop)]
+#[derive(Clone, Copy)]
 pub enum CharPrepared {
     Info(GlyphInfo, Supplier),
     Refused(Refusal),

@@ -1,1 +1,2 @@
 // The promises: theorems about the definitions and contracts of the crates below.
+#![tactic(auto)]

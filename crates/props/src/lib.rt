@@ -1,4 +1,6 @@
 // The property at a number: its name, and a value that is a number or a string.
+#![tactic(auto)]
+
 ghost use Rattle.std.specs.Prelude.{◌≡◌};
 ghost use Rattle.props.specs.Props.{prop_string, prop_of, prop_at};
 
@@ -7,21 +9,21 @@ use reads::{Refusal, byte_at, reach, u32_at};
 use tables::{PropertiesData, Record, record_fits};
 
 // A property's value: a number, or where a string stands in the font's bytes.
-#[derive(Drop)]
+#[derive(Clone, Copy)]
 pub enum PropValue {
     Number(u32),
     String(Span),
 }
 
 // A property: where its name stands in the font's bytes, and its value.
-#[derive(Drop)]
+#[derive(Clone, Copy)]
 pub struct Property {
     pub name: Span,
     pub value: PropValue,
 }
 
 // The property at a number.
-#[derive(Drop)]
+#[derive(Clone, Copy)]
 pub enum PropFound {
     Property(Property),
     Refused(Refusal),

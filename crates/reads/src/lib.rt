@@ -3,22 +3,24 @@
 //
 // Every read has a start and an offset from it, and reads at their whole sum: it answers 0 where the
 // number does not lie in the bytes, for any start and any offset (specs/Num.antt).
+#![tactic(auto)]
+
 ghost use Rattle.std.specs.Prelude.{◌≡◌, ◌+◌, ◌≤◌, ◌<◌, ◌^◌, min, length, leb};
 ghost use Rattle.reads.specs.Num.{byte_at, digit_at, digits, num_at, u16_at, u32_at, i16_at, i32_at, less128};
 
 // A character code. Never a glyph index: the two are different types.
 #[repr(C)]
-#[derive(Drop)]
+#[derive(Clone, Copy)]
 pub struct CharCode(pub u32);
 
 // The number of a glyph in a font's tables.
 #[repr(C)]
-#[derive(Drop)]
+#[derive(Clone, Copy)]
 pub struct GlyphIndex(pub u16);
 
 // Why a call has no result: the refusal's number, 1 to 20, and where, by the rule for that number.
 #[repr(C)]
-#[derive(Drop)]
+#[derive(Clone, Copy)]
 pub struct Refusal {
     pub number: u8,
     pub place: usize,

@@ -12,7 +12,7 @@ pub(crate) const HEAD: usize = 36;
 pub(crate) const CODE: u32 = 1;
 
 // `len` is width × height, `mode` the number that `modes::mode_of` takes, `text` the text's length.
-#[derive(Drop)]
+#[derive(Clone, Copy)]
 pub(crate) struct Request {
     pub(crate) kind: u32,
     pub(crate) code: CharCode,
@@ -24,7 +24,7 @@ pub(crate) struct Request {
     pub(crate) text: u32,
 }
 
-#[derive(Drop)]
+#[derive(Clone, Copy)]
 pub(crate) enum Asked {
     For(Request),
     Bad,

@@ -2,6 +2,8 @@
 // input has what is asked, the text and the font; see `asked`. The font is loaded without vetting, since most reasons
 // that lie in it are of fonts that vetting refuses; a line before the others says so. The last line says whether all
 // are drawn whole, or what is refused. These two are for a script.
+#![tactic(auto)]
+
 mod asked;
 mod character;
 mod lines;

@@ -2,6 +2,8 @@
 // draws, what its dry run answers and the pixels that changed, with the reason for that where it draws a character; of
 // one that puts bytes into a buffer, the buffer. A file has one font after the other: how many bytes it has, how many
 // bytes of texts follow it, and how many calls there are, 4 bytes each; then the font, the texts and the calls.
+#![tactic(auto)]
+
 mod answers;
 mod calls;
 mod changes;

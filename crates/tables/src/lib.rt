@@ -5,6 +5,8 @@
 // Each table is read by one function, from the place where it begins and the end of its bytes; bytes
 // past the file's end read as 0. A place is a u32, as in the directory, so that no sum of a table's
 // numbers leaves a usize. `big` in a part says that its numbers have the most significant byte first.
+#![tactic(auto)]
+
 mod accelerator_table;
 mod bitmap_table;
 mod code_table;
@@ -28,7 +30,7 @@ use reads::Refusal;
 // Table 1. `count` property records of 9 bytes from `records` on; string data of `size` bytes from
 // `strings` on.
 #[repr(C)]
-#[derive(Drop)]
+#[derive(Clone, Copy)]
 pub struct PropertiesData {
     pub big: bool,
     pub count: u32,
@@ -39,7 +41,7 @@ pub struct PropertiesData {
 
 // A glyph's metrics, or the bounds of all glyphs, in pixels.
 #[repr(C)]
-#[derive(Drop)]
+#[derive(Clone, Copy)]
 pub struct MetricsUnpacked {
     pub left: i16,
     pub right: i16,
@@ -51,7 +53,7 @@ pub struct MetricsUnpacked {
 
 // Tables 2 and 256, as values: the record needs none of the table's bytes later.
 #[repr(C)]
-#[derive(Drop)]
+#[derive(Clone, Copy)]
 pub struct AcceleratorUnpacked {
     pub format: u32,
     pub noOverlap: u8,
@@ -71,7 +73,7 @@ pub struct AcceleratorUnpacked {
 
 // Table 4. `count` records of 5 bytes (compressed) or 12 from `records` on.
 #[repr(C)]
-#[derive(Drop)]
+#[derive(Clone, Copy)]
 pub struct MetricsData {
     pub big: bool,
     pub compressed: bool,
@@ -83,7 +85,7 @@ pub struct MetricsData {
 // A row is padded to a multiple of `pad` bytes. `unit` is the format's scan unit code, `big` also the byte
 // order of a scan unit, `top` whether its top bit is its leftmost.
 #[repr(C)]
-#[derive(Drop)]
+#[derive(Clone, Copy)]
 pub struct BitmapData {
     pub big: bool,
     pub count: u32,
@@ -98,7 +100,7 @@ pub struct BitmapData {
 // Table 32. The bounds of a code's second and first byte, the default code, and the entries: `size`
 // bytes from `entries` on.
 #[repr(C)]
-#[derive(Drop)]
+#[derive(Clone, Copy)]
 pub struct EncodingData {
     pub big: bool,
     pub low2: u16,
@@ -112,7 +114,7 @@ pub struct EncodingData {
 
 // Table 128. `count` offsets from `offsets` on, into the string data of `size` bytes from `strings`.
 #[repr(C)]
-#[derive(Drop)]
+#[derive(Clone, Copy)]
 pub struct GlyphNameData {
     pub big: bool,
     pub count: u32,
@@ -123,7 +125,7 @@ pub struct GlyphNameData {
 
 // The six parts. Offsets in them count from the start of the font's bytes.
 #[repr(C)]
-#[derive(Drop)]
+#[derive(Clone, Copy)]
 pub struct Record {
     pub props: PropertiesData,
     pub accel: AcceleratorUnpacked,
@@ -134,7 +136,7 @@ pub struct Record {
 }
 
 // What the tests before a drawing say: go on, or a refusal.
-#[derive(Drop)]
+#[derive(Clone, Copy)]
 pub enum Permit {
     Given,
     Refused(Refusal),
@@ -142,7 +144,7 @@ pub enum Permit {
 
 // What reading a table from its bytes gives: the table, or the refusal's number, 6 or 7. `Other` is
 // a table of a type that is not read.
-#[derive(Drop)]
+#[derive(Clone, Copy)]
 pub enum TableRead {
     Properties(PropertiesData),
     Accelerators(AcceleratorUnpacked),

@@ -5,6 +5,8 @@
 // Every answer but the version begins with `refusal`, the refusal's number or 0 for none, and `place`; then come
 // the values, which on a refusal are 0. A mode is a number, `modes::mode_of`, and one that stands for none is refused
 // (15).
+#![tactic(auto)]
+
 mod drawing;
 mod pages;
 mod placing;
@@ -36,7 +38,7 @@ use why::ReasonNumber;
 // The numbers of a drawing. `wrap` is for texts alone, and with every bit set it is none; unpacking looks at `start`,
 // `stride` and `mode`.
 #[repr(C)]
-#[derive(Drop)]
+#[derive(Clone, Copy)]
 pub struct PageNumbers {
     pub start: usize,
     pub stride: usize,
@@ -48,7 +50,7 @@ pub struct PageNumbers {
 
 // A glyph's bitmap, and how much of it: `width` by `height`.
 #[repr(C)]
-#[derive(Drop)]
+#[derive(Clone, Copy)]
 pub struct Bitmap {
     pub glyph: GlyphIndex,
     pub width: usize,
@@ -57,7 +59,7 @@ pub struct Bitmap {
 
 // The font's record, to be used with the same bytes.
 #[repr(C)]
-#[derive(Drop)]
+#[derive(Clone, Copy)]
 pub struct FontAnswer {
     pub refusal: u32,
     pub place: usize,
@@ -67,7 +69,7 @@ pub struct FontAnswer {
 // A property: where its name stands in the font's bytes, and its value. Where `is_string` that is the bytes
 // at `string`, and `number` is 0; else it is `number`, and `string` is 0 and 0.
 #[repr(C)]
-#[derive(Drop)]
+#[derive(Clone, Copy)]
 pub struct PropertyAnswer {
     pub refusal: u32,
     pub place: usize,
@@ -79,7 +81,7 @@ pub struct PropertyAnswer {
 
 // The glyph that shows a character, and the code that supplied it.
 #[repr(C)]
-#[derive(Drop)]
+#[derive(Clone, Copy)]
 pub struct GlyphAnswer {
     pub refusal: u32,
     pub place: usize,
@@ -89,7 +91,7 @@ pub struct GlyphAnswer {
 
 // Where a name stands in the font's bytes.
 #[repr(C)]
-#[derive(Drop)]
+#[derive(Clone, Copy)]
 pub struct NameAnswer {
     pub refusal: u32,
     pub place: usize,
@@ -97,7 +99,7 @@ pub struct NameAnswer {
 }
 
 #[repr(C)]
-#[derive(Drop)]
+#[derive(Clone, Copy)]
 pub struct MetricsAnswer {
     pub refusal: u32,
     pub place: usize,
@@ -105,7 +107,7 @@ pub struct MetricsAnswer {
 }
 
 #[repr(C)]
-#[derive(Drop)]
+#[derive(Clone, Copy)]
 pub struct AccelAnswer {
     pub refusal: u32,
     pub place: usize,
@@ -113,7 +115,7 @@ pub struct AccelAnswer {
 }
 
 #[repr(C)]
-#[derive(Drop)]
+#[derive(Clone, Copy)]
 pub struct ExtentAnswer {
     pub refusal: u32,
     pub place: usize,
@@ -122,7 +124,7 @@ pub struct ExtentAnswer {
 
 // A character's placed glyph, and the code that supplied it.
 #[repr(C)]
-#[derive(Drop)]
+#[derive(Clone, Copy)]
 pub struct InfoAnswer {
     pub refusal: u32,
     pub place: usize,
@@ -132,7 +134,7 @@ pub struct InfoAnswer {
 
 // The rows drawn and dropped of a glyph.
 #[repr(C)]
-#[derive(Drop)]
+#[derive(Clone, Copy)]
 pub struct RowsAnswer {
     pub refusal: u32,
     pub place: usize,
@@ -141,7 +143,7 @@ pub struct RowsAnswer {
 
 // A character's placed glyph, its rows drawn and dropped, and the code that supplied it.
 #[repr(C)]
-#[derive(Drop)]
+#[derive(Clone, Copy)]
 pub struct CharAnswer {
     pub refusal: u32,
     pub place: usize,
@@ -153,7 +155,7 @@ pub struct CharAnswer {
 // Why a character is not on the glass, or is: the reason's number, which is never 0, how many rows were cut, and the code
 // that the reason speaks of.
 #[repr(C)]
-#[derive(Drop)]
+#[derive(Clone, Copy)]
 pub struct WhyAnswer {
     pub refusal: u32,
     pub place: usize,
@@ -163,7 +165,7 @@ pub struct WhyAnswer {
 
 // How many rows were unpacked.
 #[repr(C)]
-#[derive(Drop)]
+#[derive(Clone, Copy)]
 pub struct UnpackAnswer {
     pub refusal: u32,
     pub place: usize,
@@ -172,7 +174,7 @@ pub struct UnpackAnswer {
 
 // A text's height, and the rows dropped of all its glyphs.
 #[repr(C)]
-#[derive(Drop)]
+#[derive(Clone, Copy)]
 pub struct TextAnswer {
     pub refusal: u32,
     pub place: usize,
@@ -181,7 +183,7 @@ pub struct TextAnswer {
 
 // Whether there is a character, it, and the place after it; at the text's end all three are 0.
 #[repr(C)]
-#[derive(Drop)]
+#[derive(Clone, Copy)]
 pub struct StepAnswer {
     pub refusal: u32,
     pub place: usize,

@@ -1,6 +1,8 @@
 // Unpacking a glyph's bitmap into bytes 0 and 1: 1 is stored for each set bit of every whole row byte,
 // and every other byte of the buffer stays as it was. Whatever can refuse is decided first, as
 // `outcome::unpacked_at` decides it.
+#![tactic(auto)]
+
 ghost use Rattle.std.specs.Prelude.{◌≡◌, false, ◌≤◌, length};
 ghost use Rattle.bitmaps.specs.Place.{place_at};
 ghost use Rattle.bitmaps.specs.Paint.{painted};

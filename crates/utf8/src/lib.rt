@@ -1,4 +1,6 @@
 // Stepping through UTF-8.
+#![tactic(auto)]
+
 mod stepping;
 mod whole;
 
@@ -7,7 +9,7 @@ pub use stepping::step_at;
 pub use whole::check;
 
 // The character at a place and the place after it; or the text's end; or 19 where none starts.
-#[derive(Drop)]
+#[derive(Clone, Copy)]
 pub enum Step {
     Char(CharCode, usize),
     End,
@@ -16,7 +18,7 @@ pub enum Step {
 
 // What a first byte says: how many bytes the character takes (0: none starts so), and the range of
 // its second byte.
-#[derive(Drop)]
+#[derive(Clone, Copy)]
 pub struct Lead {
     pub size: u8,
     pub low: u8,
@@ -24,7 +26,7 @@ pub struct Lead {
 }
 
 // Whether a text is short enough and UTF-8; if not, 19 with its place.
-#[derive(Drop)]
+#[derive(Clone, Copy)]
 pub enum Checked {
     Whole,
     Refused(Refusal),

@@ -1,4 +1,6 @@
 // Vetting: in a font that passes, no code's glyph is ever refused for the font's sake.
+#![tactic(auto)]
+
 ghost use Rattle.std.specs.Prelude.{◌≡◌};
 ghost use Rattle.place.specs.Info.{info_in};
 ghost use Rattle.vet.specs.First.{first_fault};
@@ -13,14 +15,14 @@ use props::{PropFound, prop_of};
 use reads::{CharCode, GlyphIndex, Refusal};
 use tables::Record;
 
-#[derive(Drop)]
+#[derive(Clone, Copy)]
 pub enum Vetted {
     Passed(Record),
     Refused(Refusal),
 }
 
 // The first refusal of a range of numbers: the refusal's number, and the number that has it.
-#[derive(Drop)]
+#[derive(Clone, Copy)]
 pub enum First {
     Clear,
     At(u8, usize),

@@ -1,5 +1,7 @@
 // Why a character is not on the glass, or is: one reason, the first that is true in document 02's order. An installer
 // asks this where `glyphs::draw_char` left a gap.
+#![tactic(auto)]
+
 mod bounds;
 mod reasons;
 
@@ -15,7 +17,7 @@ use reads::{CharCode, Refusal};
 use tables::{Permit, Record, guard, record_fits};
 
 // The reasons, in the order in which they are looked for.
-#[derive(Drop)]
+#[derive(Clone, Copy)]
 pub enum Reason {
     // The code is above 65,535: no font of this format has a glyph for it.
     AboveCodes,
@@ -47,7 +49,7 @@ pub enum Reason {
 
 // The reason, with the code that it speaks of, or why there is none to give. The first four speak of the code asked
 // for, the others of the code that supplied the glyph.
-#[derive(Drop)]
+#[derive(Clone, Copy)]
 pub enum Told {
     Because(Reason, Supplier),
     Refused(Refusal),
@@ -56,7 +58,7 @@ pub enum Told {
 // A reason as a number: that of a refusal is the refusal's, the others have 31 to 37, which no refusal has. And how
 // many rows were cut.
 #[repr(C)]
-#[derive(Drop)]
+#[derive(Clone, Copy)]
 pub struct ReasonNumber {
     pub number: u32,
     pub cut: u16,

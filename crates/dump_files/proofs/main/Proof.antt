@@ -16,7 +16,7 @@ main_spec =
     invariant-loop
     decreases-loop
     (λ c. search rules)  -- loop-holds
-    (λ c κs. search rules)  -- arg-count-requires
+    (λ c κs. search rules)  -- arg_count-requires
     (λ c κs. search rules)  -- named-requires
     (λ c. search rules)  -- add-i
     (λ c. search rules)  -- loop-less

@@ -32,9 +32,9 @@ print_font_spec =
     (tie.spec
     (λ c κs. search rules)  -- vet-requires
     (λ c. search rules)  -- enum-known-rec
-    (λ c κs. search (passed, rules))  -- print-frames-requires
+    (λ c κs. search (passed, rules))  -- print_frames-requires
     (λ c. search rules)  -- enum-known-r
-    (λ c κs. search (refused-small, rules))  -- print-refused-requires
+    (λ c κs. search (refused-small, rules))  -- print_refused-requires
     (λ c. search rules)  -- same-length
     (λ c. search passed-number)  -- returns
     (λ c. search rules)  -- same-length-2

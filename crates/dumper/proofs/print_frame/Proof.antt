@@ -9,11 +9,11 @@ pub print_frame_spec : {M : Type 1} → statement M
 print_frame_spec =
     tie.close
     (tie.spec
-    (λ c κs. search rules)  -- put-frame-requires
+    (λ c κs. search rules)  -- put_frame-requires
     (λ c. search rules)  -- enum-known-n
     (λ c. search frame_within)  -- slice-reshare-prefix-write-all
     (λ c. search (counted, frame_within))  -- slice-aggregate-write-all
-    (λ c κs. search rules)  -- write-all-requires
+    (λ c κs. search rules)  -- write_all-requires
     (λ c. search rules)  -- enum-known-r
     (λ c κs. search no_other_refusal)  -- unreached-requires
     (λ c. search rules)  -- same-length

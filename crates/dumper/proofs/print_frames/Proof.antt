@@ -17,9 +17,9 @@ print_frames_spec =
     (tie.spec
     invariant-loop
     decreases-loop
-    (λ c κs. search rules)  -- code-range-requires
+    (λ c κs. search rules)  -- code_range-requires
     (λ c. search rules)  -- loop-holds
-    (λ c κs. search rules)  -- print-frame-requires
+    (λ c κs. search rules)  -- print_frame-requires
     (λ c. search rules)  -- add-code
     (λ c. search rules)  -- loop-less
     (λ c. search rules)  -- loop-again

@@ -9,11 +9,11 @@ pub print_refused_spec : {M : Type 1} → statement M
 print_refused_spec =
     tie.close
     (tie.spec
-    (λ c κs. search rules)  -- put-refused-requires
+    (λ c κs. search rules)  -- put_refused-requires
     (λ c. search rules)  -- enum-known-n
     (λ c. search refused_within)  -- slice-reshare-prefix-write-all
     (λ c. search (counted, refused_within))  -- slice-aggregate-write-all
-    (λ c κs. search rules)  -- write-all-requires
+    (λ c κs. search rules)  -- write_all-requires
     (λ c. search rules)  -- enum-told
     (λ c κs. search refused_fits)  -- unreached-requires
     (λ c. search rules)  -- same-length

@@ -44,13 +44,13 @@ pub print_text_spec : {M : Type 1} → statement M
 print_text_spec =
     tie.close
     (tie.spec
-    (λ c κs. search rules)  -- fill-bytes-requires
+    (λ c κs. search rules)  -- fill_bytes-requires
     (λ c. search rules)  -- enum-known-n
     (λ c. search within)  -- slice-reshare-prefix-print-font
     (λ c. search (counted, within))  -- slice-aggregate-print-font
-    (λ c κs. search (short, rules))  -- print-font-requires
+    (λ c κs. search (short, rules))  -- print_font-requires
     (λ c. search rules)  -- enum-known-bad
-    (λ c κs. search (refused-small, rules))  -- print-refused-requires
+    (λ c κs. search (refused-small, rules))  -- print_refused-requires
     (λ c. search rules)  -- same-length
     (λ c. search rules)  -- same-length-2
     (λ c. search read_number)  -- returns

@@ -14,10 +14,10 @@ pub put_frame_spec : {M : Type 1} → statement M
 put_frame_spec =
     tie.close
     (tie.spec
-    (λ c κs. search rules)  -- record-fits-requires
-    (λ c κs. search rules)  -- whole-glyph-requires
+    (λ c κs. search rules)  -- record_fits-requires
+    (λ c κs. search rules)  -- whole_glyph-requires
     (λ c. search rules)  -- enum-known-whole
-    (λ c κs. search (is_fit, whole_small))  -- put-line-requires
+    (λ c κs. search (is_fit, whole_small))  -- put_line-requires
     (λ c. search rules)  -- enum-known-whole-2
     (λ c. search rules)  -- same-length
     (λ c. search (frame_said, frame_leaves_lem))  -- returns

@@ -27,9 +27,9 @@ returns-3 : tie.Need-returns-3
 returns-3 c =
     let (said, leaves) =
     line_put (known tie.Else2 (search)).if2.left
-    (then (known tie.After-put-text (search)).put-text.ensures
-    (then (known tie.After-put-one (search)).put_one.ensures
-    (then (known tie.After-put-one2 (search)).put-one2.ensures (known tie.After-put-one3 (search)).put-one3.ensures))) in
+    (then (known tie.After-put_text (search)).put_text.ensures
+    (then (known tie.After-put_one (search)).put_one.ensures
+    (then (known tie.After-put_one2 (search)).put_one2.ensures (known tie.After-put_one3 (search)).put_one3.ensures))) in
     (said ∙ sym (two_digits _ _ (known tie.Else1 (search)).if1.left), leaves)
 
 pub put_refused_spec : {M : Type 1} → statement M
@@ -39,11 +39,11 @@ put_refused_spec =
     (λ c. search over)  -- returns
     (λ c. search short)  -- returns-2
     (λ c. search rules)  -- slice-aggregate-put-text
-    (λ c κs. search rules)  -- put-text-requires
+    (λ c κs. search rules)  -- put_text-requires
     (λ c. search rules)  -- add-put-one
-    (λ c κs. search rules)  -- put-one-requires
+    (λ c κs. search rules)  -- put_one-requires
     (λ c. search rules)  -- add-put-one-2
-    (λ c κs. search rules)  -- put-one-requires-2
-    (λ c κs. search rules)  -- put-one-requires-3
+    (λ c κs. search rules)  -- put_one-requires-2
+    (λ c κs. search rules)  -- put_one-requires-3
     (λ c. search rules)  -- same-length
     returns-3)

@@ -6,27 +6,27 @@ use Rattle.hexline.proofs.Ahead.{Filling, filling_first, filling_newline, second
 use Rattle.hexline.proofs.fill_pairs.Statement.{statement}
 use Rattle.hexline.proofs.fill_pairs.Tie as tie
 
-abbrev invariant-loop : tie.invariant-loop
-invariant-loop text out₀ at₀ i₀ out at i = Filling text out₀ out at i
+abbrev invariant-loop-i : tie.invariant-loop-i
+invariant-loop-i text out₀ at₀ i₀ out at i = Filling text out₀ out at i
 
-abbrev decreases-loop : tie.decreases-loop
-decreases-loop text out₀ at₀ i₀ out at i = length text - i
+abbrev decreases-loop-i : tie.decreases-loop-i
+decreases-loop-i text out₀ at₀ i₀ out at i = length text - i
 
 pub fill_pairs_spec : {M : Type 1} → statement M
 fill_pairs_spec =
     tie.close
     (tie.spec
-    invariant-loop
-    decreases-loop
+    invariant-loop-i
+    decreases-loop-i
     (λ c. search filling_first)  -- loop-holds
     (λ c. search rules)  -- shared-slice-read-c
     (λ c. search rules)  -- add-i
     (λ c. search rules)  -- loop-less
     (λ c. search filling_newline)  -- loop-again
-    (λ c κs. search rules)  -- digit-of-requires
+    (λ c κs. search rules)  -- digit_of-requires
     (λ c. search rules)  -- add-digit-of
     (λ c. search second_inside)  -- shared-slice-read-digit-of
-    (λ c κs. search rules)  -- digit-of-requires-2
+    (λ c κs. search rules)  -- digit_of-requires-2
     (λ c. search high_fits)  -- mul-out
     (λ c. search byte_fits)  -- add-out
     (λ c. search byte_inside)  -- slice-write-out

@@ -16,9 +16,9 @@ all_entries_spec =
     (tie.spec
     invariant-loop
     decreases-loop
-    (λ c κs. search rules)  -- nothing-yet-requires
+    (λ c κs. search rules)  -- nothing_yet-requires
     (λ c. search walk_begins)  -- loop-holds
-    (λ c κs. search rules)  -- entry-at-requires
+    (λ c κs. search rules)  -- entry_at-requires
     (λ c. search rules)  -- enum-known-h
     (λ c. search rules)  -- enum-known-number
     (λ c. search walk_stops)  -- returns

@@ -9,9 +9,9 @@ entry_at_spec =
     (tie.spec
     (λ c. search rules)  -- mul-at
     (λ c. search rules)  -- add-at
-    (λ c κs. search rules)  -- u32-at-requires
-    (λ c κs. search rules)  -- u32-at-requires-2
-    (λ c κs. search rules)  -- u32-at-requires-3
-    (λ c κs. search rules)  -- u32-at-requires-4
-    (λ c κs. search rules)  -- entry-of-requires
+    (λ c κs. search rules)  -- u32_at-requires
+    (λ c κs. search rules)  -- u32_at-requires-2
+    (λ c κs. search rules)  -- u32_at-requires-3
+    (λ c κs. search rules)  -- u32_at-requires-4
+    (λ c κs. search rules)  -- entry_of-requires
     (λ c. search entry_read))  -- returns

@@ -9,7 +9,7 @@ entry_of_spec =
     (tie.spec
     (λ c. search offset_past)  -- returns
     (λ c. search rules)  -- add-lesser-of
-    (λ c κs. search rules)  -- lesser-of-requires
-    (λ c κs. search rules)  -- table-in-requires
+    (λ c κs. search rules)  -- lesser_of-requires
+    (λ c κs. search rules)  -- table_in-requires
     (λ c κs. search rules)  -- add-requires
     (λ c. search table_added))  -- returns-2

@@ -7,7 +7,7 @@ pub table_in_spec : {M : Type 1} → statement M
 table_in_spec =
     tie.close
     (tie.spec
-    (λ c κs. search rules)  -- format-refused-requires
+    (λ c κs. search rules)  -- format_refused-requires
     (λ c. search format_refused)  -- returns
-    (λ c κs. search rules)  -- table-at-requires
+    (λ c κs. search rules)  -- table_at-requires
     (λ c. search format_passed))  -- returns-2

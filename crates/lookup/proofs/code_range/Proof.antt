@@ -8,7 +8,7 @@ code_range_spec =
     tie.close
     (tie.spec
     (λ c. search rules)  -- cast-high1
-    (λ c κs. search rules)  -- one-byte-requires
+    (λ c κs. search rules)  -- one_byte-requires
     (λ c. search rules)  -- cast-t5
     (λ c. search rules)  -- cast-t6
     (λ c. search rules)  -- add-t7

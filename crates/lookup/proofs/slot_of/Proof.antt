@@ -8,8 +8,8 @@ slot_of_spec =
     tie.close
     (tie.spec
     (λ c. search slot_far)  -- returns
-    (λ c κs. search rules)  -- one-byte-requires
-    (λ c κs. search rules)  -- slot-whole-requires
+    (λ c κs. search rules)  -- one_byte-requires
+    (λ c κs. search rules)  -- slot_whole-requires
     (λ c. search slot_one)  -- returns-2
-    (λ c κs. search rules)  -- slot-bytes-requires
+    (λ c κs. search rules)  -- slot_bytes-requires
     (λ c. search slot_two))  -- returns-3

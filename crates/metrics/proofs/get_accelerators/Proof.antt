@@ -17,6 +17,6 @@ pub get_accelerators_spec : {M : Type 1} → statement M
 get_accelerators_spec =
     tie.close
     (tie.spec
-    (λ c κs. search rules)  -- record-fits-requires
+    (λ c κs. search rules)  -- record_fits-requires
     returns
     returns-2)

@@ -17,7 +17,7 @@ pub get_metrics_spec : {M : Type 1} → statement M
 get_metrics_spec =
     tie.close
     (tie.spec
-    (λ c κs. search rules)  -- record-fits-requires
-    (λ c κs. search rules)  -- metrics-in-requires
+    (λ c κs. search rules)  -- record_fits-requires
+    (λ c κs. search rules)  -- metrics_in-requires
     returns
     returns-2)

@@ -7,7 +7,7 @@ pub measured_at_spec : {M : Type 1} → statement M
 measured_at_spec =
     tie.close
     (tie.spec
-    (λ c κs. search rules)  -- narrow-at-requires
-    (λ c κs. search rules)  -- wide-at-requires
+    (λ c κs. search rules)  -- narrow_at-requires
+    (λ c κs. search rules)  -- wide_at-requires
     (λ c. search as_narrow)  -- returns
     (λ c. search as_wide))  -- returns-2

@@ -9,8 +9,8 @@ metrics_in_spec =
     (tie.spec
     (λ c. search rules)  -- cast-i
     (λ c. search count_10)  -- returns
-    (λ c κs. search rules)  -- metric-bytes-requires
+    (λ c κs. search rules)  -- metric_bytes-requires
     (λ c. search rules)  -- cast-offset
     (λ c. search offset_fits)  -- mul-offset
-    (λ c κs. search rules)  -- measured-at-requires
+    (λ c κs. search rules)  -- measured_at-requires
     (λ c. search measured_there))  -- returns-2

@@ -10,9 +10,9 @@ metrics_of_spec =
     (λ c. search rules)  -- cast-if2
     (λ c. search rules)  -- cast-offset
     (λ c. search rules)  -- mul-offset
-    (λ c κs. search rules)  -- lies-in-requires
+    (λ c κs. search rules)  -- lies_in-requires
     (λ c. search start_fits)  -- add-narrow-inside
-    (λ c κs. search five_inside)  -- narrow-inside-requires
+    (λ c κs. search five_inside)  -- narrow_inside-requires
     (λ c. search narrow_there)  -- returns
-    (λ c κs. search rules)  -- metrics-in-requires
+    (λ c κs. search rules)  -- metrics_in-requires
     (λ c. search rules))  -- returns-2

@@ -8,17 +8,17 @@ narrow_inside_spec =
     tie.close
     (tie.spec
     (λ c. search rules)  -- shared-slice-read-metric-of
-    (λ c κs. search rules)  -- metric-of-requires
+    (λ c κs. search rules)  -- metric_of-requires
     (λ c. search rules)  -- add-metric-of
     (λ c. search rules)  -- shared-slice-read-metric-of-2
-    (λ c κs. search rules)  -- metric-of-requires-2
+    (λ c κs. search rules)  -- metric_of-requires-2
     (λ c. search rules)  -- add-metric-of-2
     (λ c. search rules)  -- shared-slice-read-metric-of-3
-    (λ c κs. search rules)  -- metric-of-requires-3
+    (λ c κs. search rules)  -- metric_of-requires-3
     (λ c. search rules)  -- add-metric-of-3
     (λ c. search rules)  -- shared-slice-read-metric-of-4
-    (λ c κs. search rules)  -- metric-of-requires-4
+    (λ c κs. search rules)  -- metric_of-requires-4
     (λ c. search rules)  -- add-metric-of-4
     (λ c. search rules)  -- shared-slice-read-metric-of-5
-    (λ c κs. search rules)  -- metric-of-requires-5
+    (λ c κs. search rules)  -- metric_of-requires-5
     (λ c. search narrow_is))  -- returns

@@ -17,7 +17,7 @@ pub get_name_spec : {M : Type 1} → statement M
 get_name_spec =
     tie.close
     (tie.spec
-    (λ c κs. search rules)  -- record-fits-requires
-    (λ c κs. search rules)  -- name-of-requires
+    (λ c κs. search rules)  -- record_fits-requires
+    (λ c κs. search rules)  -- name_of-requires
     returns
     returns-2)

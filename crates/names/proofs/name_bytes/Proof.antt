@@ -7,10 +7,10 @@ pub name_bytes_spec : {M : Type 1} → statement M
 name_bytes_spec =
     tie.close
     (tie.spec
-    (λ c κs. search rules)  -- get-name-requires
+    (λ c κs. search rules)  -- get_name-requires
     (λ c. search rules)  -- enum-known-named
-    (λ c κs. search rules)  -- part-of-requires
+    (λ c κs. search rules)  -- part_of-requires
     (λ c. search rules)  -- enum-told
-    (λ c κs. search rules)  -- part-of-requires-2
+    (λ c κs. search rules)  -- part_of-requires-2
     (λ c. search (name_part, name_stands, span_found))  -- returns
     (λ c. search (name_part, name_stands, span_empty)))  -- returns-2

@@ -11,7 +11,7 @@ name_of_spec =
     (λ c. search name_17)  -- returns
     (λ c. search rules)  -- cast-u32-at
     (λ c. search rules)  -- mul-u32-at
-    (λ c κs. search rules)  -- u32-at-requires
+    (λ c κs. search rules)  -- u32_at-requires
     (λ c. search rules)  -- cast-from
-    (λ c κs. search rules)  -- string-at-requires
+    (λ c κs. search rules)  -- string_at-requires
     (λ c. search name_there))  -- returns-2

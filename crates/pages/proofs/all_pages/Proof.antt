@@ -22,10 +22,10 @@ all_pages_spec =
     (λ c. search rules)  -- part-page-end
     (λ c κs. search rules)  -- page-requires
     (λ c. search rules)  -- add-at
-    (λ c κs. search rules)  -- title-size-requires
+    (λ c κs. search rules)  -- title_size-requires
     (λ c. search rules)  -- cast-at
     (λ c. search rules)  -- add-at-2
-    (λ c κs. search rules)  -- text-size-requires
+    (λ c κs. search rules)  -- text_size-requires
     (λ c. search rules)  -- cast-at-2
     (λ c. search rules)  -- add-at-3
     (λ c. search rules)  -- loop-less

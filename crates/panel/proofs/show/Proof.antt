@@ -36,7 +36,7 @@ pub show_spec : {M : Type 1} → statement M
 show_spec =
     tie.close
     (tie.spec
-    (λ c κs. search rules)  -- asked-of-requires
+    (λ c κs. search rules)  -- asked_of-requires
     (λ c. search rules)  -- enum-known-asked
     (λ c. search rules)  -- cast-end
     (λ c. search rules)  -- add-end
@@ -48,7 +48,7 @@ show_spec =
     (λ c. search rules)  -- part-with-font-end-2
     (λ c. search lent)  -- slice-relend-prefix-with-font
     (λ c. search counted)  -- slice-aggregate-with-font
-    (λ c κs. search (lent-small, sized, rules))  -- with-font-requires
+    (λ c κs. search (lent-small, sized, rules))  -- with_font-requires
     (λ c. search rules)  -- enum-told
     (λ c. search rules)  -- slice-aggregate-say
     (λ c κs. search rules)  -- say-requires

@@ -17,7 +17,7 @@ pub prop_at_spec : {M : Type 1} → statement M
 prop_at_spec =
     tie.close
     (tie.spec
-    (λ c κs. search rules)  -- record-fits-requires
-    (λ c κs. search rules)  -- prop-of-requires
+    (λ c κs. search rules)  -- record_fits-requires
+    (λ c κs. search rules)  -- prop_of-requires
     returns
     returns-2)

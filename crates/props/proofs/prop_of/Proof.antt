@@ -64,13 +64,13 @@ prop_of_spec =
     (λ c. search beyond)  -- returns
     (λ c. search rules)  -- mul-reach
     (λ c κs. search rules)  -- reach-requires
-    (λ c κs. search rules)  -- u32-at-requires
-    (λ c κs. search rules)  -- u32-at-requires-2
-    (λ c κs. search rules)  -- prop-string-requires
+    (λ c κs. search rules)  -- u32_at-requires
+    (λ c κs. search rules)  -- u32_at-requires-2
+    (λ c κs. search rules)  -- prop_string-requires
     (λ c. search rules)  -- enum-known-named
-    (λ c κs. search rules)  -- byte-at-requires
+    (λ c κs. search rules)  -- byte_at-requires
     (λ c. search number)  -- returns-2
-    (λ c κs. search rules)  -- prop-string-requires-2
+    (λ c κs. search rules)  -- prop_string-requires-2
     (λ c. search rules)  -- enum-known-text
     (λ c. search rules)  -- enum-known-text-2
     (λ c. search rules)  -- enum-known-named-2

@@ -7,6 +7,6 @@ pub byte_at_spec : {M : Type 1} → statement M
 byte_at_spec =
     tie.close
     (tie.spec
-    (λ c κs. search rules)  -- number-at-requires
+    (λ c κs. search rules)  -- number_at-requires
     (λ c. search rules)  -- cast-result
     (λ c. search byte_is))  -- returns

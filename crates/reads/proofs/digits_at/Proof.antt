@@ -5,21 +5,21 @@ use borrow.Author.Rules.{rules}
 use Rattle.reads.proofs.digits_at.Statement.{statement}
 use Rattle.reads.proofs.digits_at.Tie as tie
 
-abbrev invariant-loop : tie.invariant-loop
-invariant-loop s at width big n₀ i₀ n i = Summed big width s at n i
+abbrev invariant-loop-i : tie.invariant-loop-i
+invariant-loop-i s at width big n₀ i₀ n i = Summed big width s at n i
 
-abbrev decreases-loop : tie.decreases-loop
-decreases-loop s at width big n₀ i₀ n i = width - i
+abbrev decreases-loop-i : tie.decreases-loop-i
+decreases-loop-i s at width big n₀ i₀ n i = width - i
 
 pub digits_at_spec : {M : Type 1} → statement M
 digits_at_spec =
     tie.close
     (tie.spec
-    invariant-loop
-    decreases-loop
+    invariant-loop-i
+    decreases-loop-i
     (λ c. search no_digit)  -- loop-holds
     (λ c. search shift_fits)  -- mul-n
-    (λ c κs. search rules)  -- digit-at-requires
+    (λ c κs. search rules)  -- digit_at-requires
     (λ c. search digit_fits)  -- add-n
     (λ c. search rules)  -- add-i
     (λ c. search rules)  -- loop-less

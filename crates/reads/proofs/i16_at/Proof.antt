@@ -9,7 +9,7 @@ pub i16_at_spec : {M : Type 1} → statement M
 i16_at_spec =
     tie.close
     (tie.spec
-    (λ c κs. search rules)  -- number-at-requires
+    (λ c κs. search rules)  -- number_at-requires
     (λ c. search rules)  -- cast-result
     (λ c. search rules)  -- sub-d
     (λ c. search rules)  -- cast-d

@@ -9,8 +9,8 @@ pub number_at_spec : {M : Type 1} → statement M
 number_at_spec =
     tie.close
     (tie.spec
-    (λ c κs. search rules)  -- lies-in-requires
+    (λ c κs. search rules)  -- lies_in-requires
     (λ c. search sum_fits)  -- add-digits-at
-    (λ c κs. search lies_inside)  -- digits-at-requires
+    (λ c κs. search lies_inside)  -- digits_at-requires
     (λ c. search number_inside)  -- returns
     (λ c. search (number_outside, none_below)))  -- returns-2

@@ -7,7 +7,7 @@ pub reach_spec : {M : Type 1} → statement M
 reach_spec =
     tie.close
     (tie.spec
-    (λ c κs. search rules)  -- lies-in-requires
+    (λ c κs. search rules)  -- lies_in-requires
     (λ c. search sum_fits)  -- add-result
     (λ c. search reach_inside)  -- returns
     (λ c. search reach_past))  -- returns-2

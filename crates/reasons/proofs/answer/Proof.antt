@@ -15,7 +15,7 @@ pub answer_spec : {M : Type 1} → statement M
 answer_spec =
     tie.close
     (tie.spec
-    (λ c κs. search rules)  -- asked-of-requires
+    (λ c κs. search rules)  -- asked_of-requires
     (λ c. search rules)  -- enum-known-asked
     (λ c. search rules)  -- cast-end
     (λ c. search rules)  -- add-end
@@ -25,7 +25,7 @@ answer_spec =
     (λ c. search text-within)  -- sub-with-font-2
     (λ c. search text-within)  -- part-with-font-start-2
     (λ c. search rules)  -- part-with-font-end-2
-    (λ c κs. search rules)  -- with-font-requires
+    (λ c κs. search rules)  -- with_font-requires
     (λ c. search rules)  -- enum-told
     (λ c. search rules)  -- slice-aggregate-say
     (λ c κs. search rules)  -- say-requires

@@ -17,12 +17,12 @@ all_fonts_spec =
     invariant-loop
     decreases-loop
     (λ c. search rules)  -- loop-holds
-    (λ c κs. search rules)  -- u32-at-requires
+    (λ c κs. search rules)  -- u32_at-requires
     (λ c. search rules)  -- cast-font
-    (λ c κs. search rules)  -- u32-at-requires-2
+    (λ c κs. search rules)  -- u32_at-requires-2
     (λ c. search rules)  -- cast-lent
     (λ c. search rules)  -- add-lent
-    (λ c κs. search rules)  -- u32-at-requires-3
+    (λ c κs. search rules)  -- u32_at-requires-3
     (λ c κs. search rules)  -- reach-requires
     (λ c κs. search rules)  -- reach-requires-2
     (λ c κs. search rules)  -- part-requires
@@ -30,7 +30,7 @@ all_fonts_spec =
     (λ c. search rules)  -- sub-font-calls
     (λ c. search rules)  -- part-font-calls-start
     (λ c. search rules)  -- part-font-calls-end
-    (λ c κs. search rules)  -- font-calls-requires
+    (λ c κs. search rules)  -- font_calls-requires
     (λ c. search rules)  -- cast-reach
     (λ c. search rules)  -- mul-reach
     (λ c κs. search rules)  -- reach-requires-3

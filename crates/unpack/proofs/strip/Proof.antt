@@ -24,7 +24,7 @@ strip_spec =
     (λ c κs. search rules)  -- shown-requires
     (λ c. search row_line)  -- mul-unpack-byte
     (λ c. search row_at)  -- add-unpack-byte
-    (λ c κs. search byte_room)  -- unpack-byte-requires
+    (λ c κs. search byte_room)  -- unpack_byte-requires
     (λ c. search next_fits)  -- add-k
     (λ c. omega arith)  -- add-r
     (λ c. omega arith)  -- loop-less

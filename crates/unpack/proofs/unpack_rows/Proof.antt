@@ -24,10 +24,10 @@ unpack_rows_spec =
     (tie.spec
     invariant-loop
     decreases-loop
-    (λ c κs. search rules)  -- row-bytes-requires
+    (λ c κs. search rules)  -- row_bytes-requires
     (λ c. search rules)  -- cast-count
     (λ c. search no_strip)  -- loop-holds
-    (λ c κs. search rules)  -- held-byte-requires
+    (λ c κs. search rules)  -- held_byte-requires
     (λ c. search strip_fits)  -- add-strip
     (λ c. omega arith)  -- mul-strip
     (λ c κs. ((omega arith, search strip_in), search (whole_room, bytes (known (tie.After-shared-slice-known invariant-loop decreases-loop) (search)))))  -- strip-requires

@@ -7,11 +7,11 @@ pub box_fault_spec : {M : Type 1} → statement M
 box_fault_spec =
     tie.close
     (tie.spec
-    (λ c κs. search rules)  -- no-bitmap-requires
+    (λ c κs. search rules)  -- no_bitmap-requires
     (λ c. search no_bitmap_lem)  -- returns
-    (λ c κs. search rules)  -- rows-short-requires
+    (λ c κs. search rules)  -- rows_short-requires
     (λ c. search rows_short)  -- returns-2
-    (λ c κs. search rules)  -- name-of-requires
+    (λ c κs. search rules)  -- name_of-requires
     (λ c. search rules)  -- enum-told
     (λ c. search rules)  -- enum-known-r
     (λ c. search named)  -- returns-3

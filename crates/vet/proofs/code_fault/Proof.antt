@@ -7,9 +7,9 @@ pub code_fault_spec : {M : Type 1} → statement M
 code_fault_spec =
     tie.close
     (tie.spec
-    (λ c κs. search rules)  -- glyph-of-requires
+    (λ c κs. search rules)  -- glyph_of-requires
     (λ c. search rules)  -- enum-known-g
-    (λ c κs. search rules)  -- glyph-fault-requires
+    (λ c κs. search rules)  -- glyph_fault-requires
     (λ c. search rules)  -- enum-told
     (λ c. search code_found)  -- returns
     (λ c. search code_empty))  -- returns-2

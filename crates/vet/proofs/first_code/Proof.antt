@@ -21,9 +21,9 @@ first_code_spec =
     (tie.spec
     invariant-loop
     decreases-loop
-    (λ c κs. search rules)  -- code-range-requires
+    (λ c κs. search rules)  -- code_range-requires
     (λ c. search codes_by_range)  -- loop-holds
-    (λ c κs. search rules)  -- code-fault-requires
+    (λ c κs. search rules)  -- code_fault-requires
     (λ c. search rules)  -- cast-t8
     (λ c. search loop_stops)  -- returns
     (λ c. search rules)  -- add-code

@@ -22,7 +22,7 @@ first_prop_spec =
     invariant-loop
     decreases-loop
     (λ c. simp sub-zero)  -- loop-holds
-    (λ c κs. search rules)  -- prop-fault-requires
+    (λ c κs. search rules)  -- prop_fault-requires
     (λ c. search rules)  -- cast-t7
     (λ c. search loop_stops)  -- returns
     (λ c. search rules)  -- add-i

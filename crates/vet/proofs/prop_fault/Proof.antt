@@ -7,7 +7,7 @@ pub prop_fault_spec : {M : Type 1} → statement M
 prop_fault_spec =
     tie.close
     (tie.spec
-    (λ c κs. search rules)  -- prop-of-requires
+    (λ c κs. search rules)  -- prop_of-requires
     (λ c. search rules)  -- enum-told
     (λ c. search rules)  -- enum-known-r
     (λ c. search prop_found)  -- returns

@@ -7,9 +7,9 @@ pub vet_spec : {M : Type 1} → statement M
 vet_spec =
     tie.close
     (tie.spec
-    (λ c κs. search rules)  -- load-in-requires
+    (λ c κs. search rules)  -- load_in-requires
     (λ c. search rules)  -- enum-known-rec
-    (λ c κs. search rules)  -- vet-record-requires
+    (λ c κs. search rules)  -- vet_record-requires
     (λ c. search rules)  -- enum-known-r
     (λ c. search font_vetted)  -- returns
     (λ c. search font_refused))  -- returns-2

@@ -9,11 +9,11 @@ vet_record_spec =
     (tie.spec
     (λ c κs. search rules)  -- unreadable-requires
     (λ c. search record_13)  -- returns
-    (λ c κs. search rules)  -- bounds-hold-requires
-    (λ c κs. search rules)  -- first-prop-requires
+    (λ c κs. search rules)  -- bounds_hold-requires
+    (λ c κs. search rules)  -- first_prop-requires
     (λ c. search rules)  -- enum-known-number
     (λ c. search rules)  -- enum-told
-    (λ c κs. search rules)  -- first-code-requires
+    (λ c κs. search rules)  -- first_code-requires
     (λ c. search rules)  -- enum-known-number-2
     (λ c. search rules)  -- enum-told-2
     (λ c. search record_prop)  -- returns-2

@@ -19,13 +19,13 @@ pub why_spec : {M : Type 1} → statement M
 why_spec =
     tie.close
     (tie.spec
-    (λ c κs. search rules)  -- record-fits-requires
-    (λ c κs. search rules)  -- ok-place-requires
+    (λ c κs. search rules)  -- record_fits-requires
+    (λ c κs. search rules)  -- ok_place-requires
     (λ c κs. search rules)  -- guard-requires
     (λ c. search rules)  -- enum-told
     cast-reason-of
     cast-reason-of-2
-    (λ c κs. search rules)  -- reason-of-requires
+    (λ c κs. search rules)  -- reason_of-requires
     (λ c. search rules)  -- enum-known-permit
     (λ c. search (told_reason, is_guard))  -- returns
     (λ c. search (told_refused, is_guard)))  -- returns-2

@@ -11,10 +11,10 @@ bytes_past_spec =
     (λ c. search no_columns)  -- returns-2
     (λ c. search rules)  -- sub-rows
     (λ c. search rows_before_fit)  -- mul-rows
-    (λ c κs. search rules)  -- order-of-requires
-    (λ c κs. search rules)  -- row-end-requires
+    (λ c κs. search rules)  -- order_of-requires
+    (λ c κs. search rules)  -- row_end-requires
     (λ c. search rules)  -- cast-end
-    (λ c κs. search rules)  -- data-size-requires
+    (λ c κs. search rules)  -- data_size-requires
     (λ c. search last_row_fits)  -- add-result
     (λ c. search last_byte_fits)  -- add-result-2
     (λ c. search by_last_byte))  -- returns-3

@@ -10,5 +10,5 @@ offset_of_spec =
     (tie.spec
     (λ c. search rules)  -- cast-u32-at
     (λ c. search rules)  -- mul-u32-at
-    (λ c κs. search rules)  -- u32-at-requires
+    (λ c κs. search rules)  -- u32_at-requires
     (λ c. search rules))  -- returns

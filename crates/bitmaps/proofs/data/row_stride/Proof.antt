@@ -32,7 +32,7 @@ row_stride_spec =
     tie.close
     (tie.spec
     (λ c. search no-pad)  -- returns
-    (λ c κs. search rules)  -- row-bytes-requires
+    (λ c κs. search rules)  -- row_bytes-requires
     (λ c. search by_one)  -- returns-2
     (λ c. search rules)  -- add-result
     (λ c. search rules)  -- mul-result

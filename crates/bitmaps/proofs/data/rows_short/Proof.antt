@@ -7,7 +7,7 @@ pub rows_short_spec : {M : Type 1} → statement M
 rows_short_spec =
     tie.close
     (tie.spec
-    (λ c κs. search rules)  -- offset-of-requires
-    (λ c κs. search rules)  -- row-stride-requires
-    (λ c κs. search rules)  -- bytes-past-requires
+    (λ c κs. search rules)  -- offset_of-requires
+    (λ c κs. search rules)  -- row_stride-requires
+    (λ c κs. search rules)  -- bytes_past-requires
     (λ c. search glyph_short))  -- returns

@@ -26,5 +26,5 @@ unreadable_spec =
     tie.close
     (tie.spec
     (λ c. search one_byte)  -- returns
-    (λ c κs. search rules)  -- unit-bytes-requires
+    (λ c κs. search rules)  -- unit_bytes-requires
     (λ c. search wider))  -- returns-2

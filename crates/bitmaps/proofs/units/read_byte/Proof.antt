@@ -21,7 +21,7 @@ pub read_byte_spec : {M : Type 1} → statement M
 read_byte_spec =
     tie.close
     (tie.spec
-    (λ c κs. search rules)  -- held-byte-requires
+    (λ c κs. search rules)  -- held_byte-requires
     (λ c. search (past_end, bytes (known tie.After-shared-slice-known (search))))  -- returns
     (λ c. search rules)  -- shared-slice-read-shown
     (λ c κs. search rules)  -- shown-requires

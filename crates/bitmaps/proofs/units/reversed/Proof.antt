@@ -39,9 +39,9 @@ reversed_spec =
     tie.close
     (tie.spec
     (λ c. search rules)  -- cast-reversed-half
-    (λ c κs. search rules)  -- reversed-half-requires
+    (λ c κs. search rules)  -- reversed_half-requires
     (λ c. search rules)  -- cast-reversed-half-2
-    (λ c κs. search rules)  -- reversed-half-requires-2
+    (λ c κs. search rules)  -- reversed_half-requires-2
     (λ c. search shifted_fits)  -- mul-result
     (λ c. search sum_fits)  -- add-result
     (λ c. search both_halves))  -- returns

@@ -26,7 +26,7 @@ pub row_end_spec : {M : Type 1} → statement M
 row_end_spec =
     tie.close
     (tie.spec
-    (λ c κs. search rules)  -- row-bytes-requires
+    (λ c κs. search rules)  -- row_bytes-requires
     (λ c. search alone)  -- returns
     (λ c. search straight)  -- returns-2
     (λ c. search rules)  -- add-result

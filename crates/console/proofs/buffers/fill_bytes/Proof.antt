@@ -18,7 +18,7 @@ fill_bytes_spec =
     invariant-loop
     decreases-loop
     (λ c. search filling_none)  -- loop-holds
-    (λ c κs. search rules)  -- byte-before-requires
+    (λ c κs. search rules)  -- byte_before-requires
     (λ c. search rules)  -- slice-write-buf
     (λ c. search rules)  -- add-i
     (λ c. search rules)  -- loop-less

@@ -18,7 +18,7 @@ fill_pixels_spec =
     invariant-loop
     decreases-loop
     (λ c. search filling_none)  -- loop-holds
-    (λ c κs. search rules)  -- pixel-before-requires
+    (λ c κs. search rules)  -- pixel_before-requires
     (λ c. search rules)  -- mul-buf
     (λ c. search rules)  -- slice-write-buf
     (λ c. search rules)  -- add-i

@@ -16,16 +16,16 @@ told_spec =
     (tie.spec
     invariant-loop
     decreases-loop
-    (λ c κs. search rules)  -- nothing-seen-requires
+    (λ c κs. search rules)  -- nothing_seen-requires
     (λ c. search rules)  -- loop-holds
     (λ c. search rules)  -- mul-with-pixel
     (λ c. search rules)  -- shared-slice-read-with-pixel
-    (λ c κs. search rules)  -- pixel-before-requires
+    (λ c κs. search rules)  -- pixel_before-requires
     (λ c. search rules)  -- mul-with-pixel-2
     (λ c. search rules)  -- shared-slice-read-with-pixel-2
-    (λ c κs. search rules)  -- with-pixel-requires
+    (λ c κs. search rules)  -- with_pixel-requires
     (λ c. search rules)  -- add-i
     (λ c. search rules)  -- loop-less
     (λ c. search rules)  -- loop-again
-    (λ c κs. search rules)  -- all-told-requires
+    (λ c κs. search rules)  -- all_told-requires
     (λ c. search rules))  -- returns

@@ -16,15 +16,15 @@ told_bytes_spec =
     (tie.spec
     invariant-loop
     decreases-loop
-    (λ c κs. search rules)  -- nothing-seen-requires
+    (λ c κs. search rules)  -- nothing_seen-requires
     (λ c. search rules)  -- loop-holds
     (λ c. search rules)  -- shared-slice-read-with-pixel
-    (λ c κs. search rules)  -- byte-before-requires
+    (λ c κs. search rules)  -- byte_before-requires
     (λ c. search rules)  -- shared-slice-read-wide
     (λ c κs. search rules)  -- wide-requires
-    (λ c κs. search rules)  -- with-pixel-requires
+    (λ c κs. search rules)  -- with_pixel-requires
     (λ c. search rules)  -- add-i
     (λ c. search rules)  -- loop-less
     (λ c. search rules)  -- loop-again
-    (λ c κs. search rules)  -- all-told-requires
+    (λ c κs. search rules)  -- all_told-requires
     (λ c. search rules))  -- returns

@@ -18,13 +18,13 @@ say_signed_spec =
     (tie.spec
     invariant-loop
     decreases-loop
-    (λ c κs. search rules)  -- say-to-mark-requires
+    (λ c κs. search rules)  -- say_to_mark-requires
     (λ c. search rules)  -- loop-holds
     (λ c. search rules)  -- mul-signed
     (λ c. search rules)  -- shared-slice-copy-out-signed
     (λ c κs. search rules)  -- signed-requires
     (λ c. omega (arith, ltb-true))  -- add-say-to-mark
-    (λ c κs. omega (arith, ltb-true))  -- say-to-mark-requires-2
+    (λ c κs. omega (arith, ltb-true))  -- say_to_mark-requires-2
     (λ c. search rules)  -- add-i
     (λ c. search rules)  -- loop-less
     (λ c. search rules)  -- loop-again

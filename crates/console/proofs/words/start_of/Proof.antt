@@ -17,7 +17,7 @@ start_of_spec =
     invariant-loop
     decreases-loop
     (λ c. search rules)  -- loop-holds
-    (λ c κs. search rules)  -- next-of-requires
+    (λ c κs. search rules)  -- next_of-requires
     (λ c κs. search rules)  -- after-requires
     (λ c. search rules)  -- add-k
     (λ c. search rules)  -- loop-less

@@ -8,9 +8,9 @@ record_of_spec =
     tie.close
     (tie.spec
     (λ c. search rules)  -- enum-told
-    (λ c κs. search rules)  -- load-in-requires
+    (λ c κs. search rules)  -- load_in-requires
     (λ c. search rules)  -- enum-told-2
-    (λ c κs. search rules)  -- load-in-requires-2
+    (λ c κs. search rules)  -- load_in-requires-2
     (λ c. search rules)  -- enum-told-3
     (λ c κs. search rules)  -- vet-requires
     (λ c. search rules)  -- enum-known-vetted

@@ -10,7 +10,7 @@ unfolding show_char show_char_leaves
 returns c =
     let drawn = c.before.before in
     let read = drawn.before.before.before in
-    rw (← read.before.before.record_of.ensures, read.loaded.given.1) drawn.char-through.ensures
+    rw (← read.before.before.record_of.ensures, read.loaded.given.1) drawn.char_through.ensures
 
 -- without one, the refusal of reading it
 returns-2 : tie.Need-returns-2
@@ -21,9 +21,9 @@ pub show_char_spec : {M : Type 1} → statement M
 show_char_spec =
     tie.close
     (tie.spec
-    (λ c κs. search rules)  -- record-of-requires
+    (λ c κs. search rules)  -- record_of-requires
     (λ c. search rules)  -- enum-known-loaded
-    (λ c κs. search rules)  -- char-through-requires
+    (λ c κs. search rules)  -- char_through-requires
     (λ c. search rules)  -- enum-known-loaded-2
     (λ c. search rules)  -- same-length
     returns

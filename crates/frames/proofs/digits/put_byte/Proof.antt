@@ -16,9 +16,9 @@ pub put_byte_spec : {M : Type 1} → statement M
 put_byte_spec =
     tie.close
     (tie.spec
-    (λ c κs. search rules)  -- hex-digit-requires
-    (λ c κs. search rules)  -- put-one-requires
-    (λ c κs. search rules)  -- hex-digit-requires-2
-    (λ c κs. search rules)  -- put-one-requires-2
+    (λ c κs. search rules)  -- hex_digit-requires
+    (λ c κs. search rules)  -- put_one-requires
+    (λ c κs. search rules)  -- hex_digit-requires-2
+    (λ c κs. search rules)  -- put_one-requires-2
     (λ c. search rules)  -- same-length
     (λ c. search two_digits))  -- returns

@@ -7,9 +7,9 @@ pub put_field_spec : {M : Type 1} → statement M
 put_field_spec =
     tie.close
     (tie.spec
-    (λ c κs. search rules)  -- put-one-requires
+    (λ c κs. search rules)  -- put_one-requires
     (λ c. search rules)  -- same-length
     (λ c. search field_dash)  -- returns
-    (λ c κs. search rules)  -- put-hex-requires
+    (λ c κs. search rules)  -- put_hex-requires
     (λ c. search rules)  -- same-length-2
     (λ c. search field_digits))  -- returns-2

@@ -8,9 +8,9 @@ put_four_spec =
     tie.close
     (tie.spec
     (λ c. search rules)  -- cast-put-byte
-    (λ c κs. search rules)  -- put-byte-requires
+    (λ c κs. search rules)  -- put_byte-requires
     (λ c. search rules)  -- cast-put-byte-2
-    (λ c κs. search rules)  -- put-byte-requires-2
-    (λ c κs. search rules)  -- put-one-requires
+    (λ c κs. search rules)  -- put_byte-requires-2
+    (λ c κs. search rules)  -- put_one-requires
     (λ c. search rules)  -- same-length
     (λ c. search three_runs))  -- returns

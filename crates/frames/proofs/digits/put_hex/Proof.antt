@@ -26,7 +26,7 @@ put_hex_spec =
     decreases-loop
     loop-holds
     (λ c. search rules)  -- shared-slice-read-put-byte
-    (λ c κs. search hex_room)  -- put-byte-requires
+    (λ c κs. search hex_room)  -- put_byte-requires
     (λ c. search rules)  -- add-i
     (λ c. search rules)  -- loop-less
     (λ c. search (hex_turn, rules))  -- loop-again

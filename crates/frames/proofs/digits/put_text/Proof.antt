@@ -21,7 +21,7 @@ put_text_spec =
     decreases-loop
     (λ c. search rules)  -- loop-holds
     (λ c. search rules)  -- shared-slice-read-put-one
-    (λ c κs. search text_room)  -- put-one-requires
+    (λ c κs. search text_room)  -- put_one-requires
     (λ c. search rules)  -- add-i
     (λ c. search rules)  -- loop-less
     (λ c. search (text_next, rules))  -- loop-again

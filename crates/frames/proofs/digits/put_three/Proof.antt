@@ -7,8 +7,8 @@ pub put_three_spec : {M : Type 1} → statement M
 put_three_spec =
     tie.close
     (tie.spec
-    (λ c κs. search rules)  -- put-four-requires
-    (λ c κs. search rules)  -- put-four-requires-2
-    (λ c κs. search rules)  -- put-four-requires-3
+    (λ c κs. search rules)  -- put_four-requires
+    (λ c κs. search rules)  -- put_four-requires-2
+    (λ c κs. search rules)  -- put_four-requires-3
     (λ c. search rules)  -- same-length
     (λ c. search three_runs))  -- returns

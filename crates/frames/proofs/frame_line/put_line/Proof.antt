@@ -13,14 +13,14 @@ pub put_line_spec : {M : Type 1} → statement M
 put_line_spec =
     tie.close
     (tie.spec
-    (λ c κs. search rules)  -- name-bytes-requires
+    (λ c κs. search rules)  -- name_bytes-requires
     (λ c. search name_long)  -- returns
-    (λ c κs. search rules)  -- field-size-requires
-    (λ c κs. search rules)  -- rows-size-requires
-    (λ c κs. search rules)  -- field-size-requires-2
+    (λ c κs. search rules)  -- field_size-requires
+    (λ c κs. search rules)  -- rows_size-requires
+    (λ c κs. search rules)  -- field_size-requires-2
     (λ c. search rules)  -- add-fields
     (λ c. search rules)  -- add-if2
     (λ c. search line_long)  -- returns-2
-    (λ c κs. (search line_named, (search line_room, four-digits (search))))  -- put-fields-requires
+    (λ c κs. (search line_named, (search line_room, four-digits (search))))  -- put_fields-requires
     (λ c. search rules)  -- same-length
     (λ c. search line_said))  -- returns-3

@@ -27,8 +27,8 @@ put_row_spec =
     invariant-loop
     decreases-loop
     loop-holds
-    (λ c κs. search rules)  -- row-byte-requires
-    (λ c κs. search row_space)  -- put-byte-requires
+    (λ c κs. search rules)  -- row_byte-requires
+    (λ c κs. search row_space)  -- put_byte-requires
     (λ c. search rules)  -- add-j
     (λ c. search rules)  -- loop-less
     (λ c. search (row_turn, rules))  -- loop-again

@@ -25,14 +25,14 @@ put_rows_spec =
     (tie.spec
     invariant-loop
     decreases-loop
-    (λ c κs. search rules)  -- row-bytes-requires
+    (λ c κs. search rules)  -- row_bytes-requires
     (λ c. search rules)  -- cast-count
-    (λ c κs. search rules)  -- row-stride-requires
+    (λ c κs. search rules)  -- row_stride-requires
     (λ c. search rules)  -- cast-stride
-    (λ c κs. search rules)  -- offset-of-requires
+    (λ c κs. search rules)  -- offset_of-requires
     (λ c. search rules)  -- cast-row
     loop-holds
-    (λ c κs. search rows_space)  -- put-row-requires
+    (λ c κs. search rows_space)  -- put_row-requires
     (λ c. search start_fits)  -- add-row
     (λ c. search rules)  -- add-k
     (λ c. search rules)  -- loop-less

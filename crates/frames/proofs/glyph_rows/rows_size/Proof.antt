@@ -7,7 +7,7 @@ pub rows_size_spec : {M : Type 1} → statement M
 rows_size_spec =
     tie.close
     (tie.spec
-    (λ c κs. search rules)  -- row-bytes-requires
+    (λ c κs. search rules)  -- row_bytes-requires
     (λ c. search rules)  -- cast-result
     (λ c. search size_fits)  -- mul-result
     (λ c. search (size_is, size_small)))  -- returns

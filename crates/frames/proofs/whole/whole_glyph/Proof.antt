@@ -7,11 +7,11 @@ pub whole_glyph_spec : {M : Type 1} → statement M
 whole_glyph_spec =
     tie.close
     (tie.spec
-    (λ c κs. search rules)  -- glyph-of-requires
+    (λ c κs. search rules)  -- glyph_of-requires
     (λ c. search rules)  -- enum-known-found
-    (λ c κs. search rules)  -- info-of-requires
+    (λ c κs. search rules)  -- info_of-requires
     (λ c. search rules)  -- enum-known-placed
-    (λ c κs. search rules)  -- whole-box-requires
+    (λ c κs. search rules)  -- whole_box-requires
     (λ c. search rules)  -- enum-known-placed-2
     (λ c. search rules)  -- enum-known-found-2
     (λ c. search glyph_whole)  -- returns

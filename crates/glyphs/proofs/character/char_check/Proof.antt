@@ -7,12 +7,12 @@ pub char_check_spec : {M : Type 1} → statement M
 char_check_spec =
     tie.close
     (tie.spec
-    (λ c κs. search rules)  -- char-ready-requires
+    (λ c κs. search rules)  -- char_ready-requires
     (λ c. search rules)  -- enum-known-ready
     (λ c. search char_stride_fits)  -- cast-glyph-drawn
     (λ c. search char_scale_fits)  -- cast-glyph-drawn-2
-    (λ c κs. search rules)  -- glyph-drawn-requires
-    (λ c κs. search rules)  -- char-of-requires
+    (λ c κs. search rules)  -- glyph_drawn-requires
+    (λ c κs. search rules)  -- char_of-requires
     (λ c. search rules)  -- enum-known-ready-2
     (λ c. search char_drawn)  -- returns
     (λ c. search char_none))  -- returns-2

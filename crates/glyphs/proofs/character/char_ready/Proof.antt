@@ -8,11 +8,11 @@ pub char_ready_spec : {M : Type 1} → statement M
 char_ready_spec =
     tie.close
     (tie.spec
-    (λ c κs. search rules)  -- record-fits-requires
-    (λ c κs. search rules)  -- ok-place-requires
+    (λ c κs. search rules)  -- record_fits-requires
+    (λ c κs. search rules)  -- ok_place-requires
     (λ c κs. search rules)  -- guard-requires
     (λ c. search rules)  -- enum-told
-    (λ c κs. search rules)  -- char-info-requires
+    (λ c κs. search rules)  -- char_info-requires
     (λ c. search rules)  -- enum-known-permit
     (λ c. search (ready_placed, is_guard))  -- returns
     (λ c. search (ready_refused, is_guard)))  -- returns-2

@@ -8,12 +8,12 @@ pub draw_char_spec : {M : Type 1} → statement M
 draw_char_spec =
     tie.close
     (tie.spec
-    (λ c κs. search rules)  -- char-ready-requires
+    (λ c κs. search rules)  -- char_ready-requires
     (λ c. search rules)  -- enum-known-ready
     (λ c. search char_stride_fits)  -- cast-show-glyph
     (λ c. search char_scale_fits)  -- cast-show-glyph-2
-    (λ c κs. search rules)  -- show-glyph-requires
-    (λ c κs. search rules)  -- char-of-requires
+    (λ c κs. search rules)  -- show_glyph-requires
+    (λ c κs. search rules)  -- char_of-requires
     (λ c. search rules)  -- enum-known-ready-2
     (λ c. search rules)  -- same-length
     (λ c. search (char_drawn, char_leaves_lem))  -- returns

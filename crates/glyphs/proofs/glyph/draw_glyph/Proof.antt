@@ -7,11 +7,11 @@ pub draw_glyph_spec : {M : Type 1} → statement M
 draw_glyph_spec =
     tie.close
     (tie.spec
-    (λ c κs. search rules)  -- glyph-ready-requires
+    (λ c κs. search rules)  -- glyph_ready-requires
     (λ c. search rules)  -- enum-told
     (λ c. search stride_fits)  -- cast-show-glyph
     (λ c. search scale_fits)  -- cast-show-glyph-2
-    (λ c κs. search rules)  -- show-glyph-requires
+    (λ c κs. search rules)  -- show_glyph-requires
     (λ c. search rules)  -- enum-known-permit
     (λ c. search rules)  -- same-length
     (λ c. search glyph_drawn_lem)  -- returns

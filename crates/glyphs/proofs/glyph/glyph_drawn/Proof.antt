@@ -7,8 +7,8 @@ pub glyph_drawn_spec : {M : Type 1} → statement M
 glyph_drawn_spec =
     tie.close
     (tie.spec
-    (λ c κs. search rules)  -- no-bitmap-requires
+    (λ c κs. search rules)  -- no_bitmap-requires
     (λ c. search drawn_none)  -- returns
-    (λ c κs. search rules)  -- place-of-requires
-    (λ c κs. search rules)  -- shown-at-requires
+    (λ c κs. search rules)  -- place_of-requires
+    (λ c κs. search rules)  -- shown_at-requires
     (λ c. search drawn_there))  -- returns-2

@@ -8,8 +8,8 @@ pub glyph_ready_spec : {M : Type 1} → statement M
 glyph_ready_spec =
     tie.close
     (tie.spec
-    (λ c κs. search rules)  -- record-fits-requires
-    (λ c κs. search rules)  -- ok-place-requires
-    (λ c κs. search rules)  -- ok-info-requires
+    (λ c κs. search rules)  -- record_fits-requires
+    (λ c κs. search rules)  -- ok_place-requires
+    (λ c κs. search rules)  -- ok_info-requires
     (λ c κs. search rules)  -- guard-requires
     (λ c. search (glyph_tested, is_guard)))  -- returns

@@ -8,9 +8,9 @@ pub show_glyph_spec : {M : Type 1} → statement M
 show_glyph_spec =
     tie.close
     (tie.spec
-    (λ c κs. search rules)  -- no-bitmap-requires
+    (λ c κs. search rules)  -- no_bitmap-requires
     (λ c. search (drawn_none, nothing_leaves))  -- returns
-    (λ c κs. search rules)  -- place-of-requires
-    (λ c κs. search rules)  -- show-at-requires
+    (λ c κs. search rules)  -- place_of-requires
+    (λ c κs. search rules)  -- show_at-requires
     (λ c. search rules)  -- same-length
     (λ c. search (drawn_there, leaves_there)))  -- returns-2

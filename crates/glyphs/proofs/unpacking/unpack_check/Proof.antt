@@ -7,13 +7,13 @@ pub unpack_check_spec : {M : Type 1} → statement M
 unpack_check_spec =
     tie.close
     (tie.spec
-    (λ c κs. search rules)  -- unpack-ready-requires
+    (λ c κs. search rules)  -- unpack_ready-requires
     (λ c. search rules)  -- enum-told
-    (λ c κs. search rules)  -- no-bitmap-requires
+    (λ c κs. search rules)  -- no_bitmap-requires
     (λ c. search unpack_none)  -- returns
     (λ c. search stride_fits)  -- cast-line
-    (λ c κs. search rules)  -- place-of-requires
-    (λ c κs. search rules)  -- unpacked-at-requires
+    (λ c κs. search rules)  -- place_of-requires
+    (λ c κs. search rules)  -- unpacked_at-requires
     (λ c. search rules)  -- enum-known-permit
     (λ c. search unpack_there)  -- returns-2
     (λ c. search unpack_refused))  -- returns-3

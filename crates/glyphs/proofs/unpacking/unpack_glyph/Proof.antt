@@ -8,13 +8,13 @@ pub unpack_glyph_spec : {M : Type 1} → statement M
 unpack_glyph_spec =
     tie.close
     (tie.spec
-    (λ c κs. search rules)  -- unpack-ready-requires
+    (λ c κs. search rules)  -- unpack_ready-requires
     (λ c. search rules)  -- enum-told
-    (λ c κs. search rules)  -- no-bitmap-requires
+    (λ c κs. search rules)  -- no_bitmap-requires
     (λ c. search (unpack_none, nothing_unpacked))  -- returns
     (λ c. search stride_fits)  -- cast-line
-    (λ c κs. search rules)  -- place-of-requires
-    (λ c κs. search rules)  -- unpack-at-requires
+    (λ c κs. search rules)  -- place_of-requires
+    (λ c κs. search rules)  -- unpack_at-requires
     (λ c. search rules)  -- enum-known-permit
     (λ c. search rules)  -- same-length
     (λ c. search (unpack_there, unpack_leaves_lem))  -- returns-2

@@ -6,5 +6,5 @@ pub blank_spec : {M : Type 1} → statement M
 blank_spec =
     tie.close
     (tie.spec
-    (λ c κs. search rules)  -- no-accelerators-requires
-    (λ c. rw c.no-accelerators.ensures))  -- returns
+    (λ c κs. search rules)  -- no_accelerators-requires
+    (λ c. rw c.no_accelerators.ensures))  -- returns

@@ -3,12 +3,12 @@ use Rattle.load.proofs.blanks.no_accelerators.Statement.{statement}
 use Rattle.load.proofs.blanks.no_accelerators.Tie as tie
 
 returns : tie.Need-returns
-returns c = rw (c.before.no-metrics.ensures, c.no-metrics2.ensures)
+returns c = rw (c.before.no_metrics.ensures, c.no_metrics2.ensures)
 
 pub no_accelerators_spec : {M : Type 1} → statement M
 no_accelerators_spec =
     tie.close
     (tie.spec
-    (λ c κs. search rules)  -- no-metrics-requires
-    (λ c κs. search rules)  -- no-metrics-requires-2
+    (λ c κs. search rules)  -- no_metrics-requires
+    (λ c κs. search rules)  -- no_metrics-requires-2
     returns)

@@ -7,6 +7,6 @@ pub finish_spec : {M : Type 1} → statement M
 finish_spec =
     tie.close
     (tie.spec
-    (λ c κs. search rules)  -- all-six-requires
+    (λ c κs. search rules)  -- all_six-requires
     (λ c. search all_there)  -- returns
     (λ c. search one_missing))  -- returns-2

@@ -8,7 +8,7 @@ or_else_spec =
     tie.close
     (tie.spec
     (λ c. search rules)  -- enum-known-own
-    (λ c κs. search rules)  -- by-itself-requires
+    (λ c κs. search rules)  -- by_itself-requires
     (λ c. search rules)  -- enum-told
     (λ c. search own_first)  -- returns
     (λ c. search rules))  -- returns-2

@@ -8,8 +8,8 @@ or_stand_in_spec =
     tie.close
     (tie.spec
     (λ c. search rules)  -- enum-known-own
-    (λ c κs. search rules)  -- by-itself-requires
+    (λ c κs. search rules)  -- by_itself-requires
     (λ c. search rules)  -- enum-told
-    (λ c κs. search rules)  -- stand-in-requires
+    (λ c κs. search rules)  -- stand_in-requires
     (λ c. search own_first)  -- returns
     (λ c. search else_other))  -- returns-2

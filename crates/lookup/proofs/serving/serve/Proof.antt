@@ -7,6 +7,6 @@ pub serve_spec : {M : Type 1} → statement M
 serve_spec =
     tie.close
     (tie.spec
-    (λ c κs. search rules)  -- glyph-of-requires
-    (λ c κs. search rules)  -- or-stand-in-requires
+    (λ c κs. search rules)  -- glyph_of-requires
+    (λ c κs. search rules)  -- or_stand_in-requires
     (λ c. search served_in_steps))  -- returns

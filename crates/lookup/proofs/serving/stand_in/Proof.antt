@@ -8,7 +8,7 @@ stand_in_spec =
     tie.close
     (tie.spec
     (λ c. search rules)  -- cast-t10
-    (λ c κs. search rules)  -- glyph-of-requires
+    (λ c κs. search rules)  -- glyph_of-requires
     (λ c. search rules)  -- enum-known-found
     (λ c. search rules)  -- enum-known-found-2
     (λ c. search default_stands_in)  -- returns

@@ -7,10 +7,10 @@ pub string_at_spec : {M : Type 1} → statement M
 string_at_spec =
     tie.close
     (tie.spec
-    (λ c κs. search rules)  -- is-inside-requires
+    (λ c κs. search rules)  -- is_inside-requires
     (λ c. search string_beyond)  -- returns
     (λ c. search start_fits)  -- add-start
-    (λ c κs. search end_inside)  -- find-end-requires
+    (λ c κs. search end_inside)  -- find_end-requires
     (λ c. search rules)  -- enum-known-end
     (λ c. search rules)  -- enum-told
     (λ c. search string_found)  -- returns-2

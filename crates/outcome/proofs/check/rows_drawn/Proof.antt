@@ -43,7 +43,7 @@ rows_drawn_spec =
     (tie.spec
     (λ c. search no-stride)  -- returns
     (λ c. search no-scale)  -- returns-2
-    (λ c κs. search rules)  -- room-from-requires
+    (λ c κs. search rules)  -- room_from-requires
     (λ c. search rules)  -- sub-if3
     (λ c. search rules)  -- add-if3
     (λ c. search room-needed)  -- mul-if3

@@ -16,18 +16,18 @@ shown_at_spec =
     (tie.spec
     (λ c κs. search rules)  -- unreadable-requires
     (λ c. search shown_13)  -- returns
-    (λ c κs. search rules)  -- rows-drawn-requires
+    (λ c κs. search rules)  -- rows_drawn-requires
     (λ c. search rules)  -- sub-t20
     (λ c. search shown_nothing)  -- returns-2
-    (λ c κs. search rules)  -- offset-of-requires
-    (λ c κs. search rules)  -- row-stride-requires
-    (λ c κs. search rules)  -- bytes-past-requires
+    (λ c κs. search rules)  -- offset_of-requires
+    (λ c κs. search rules)  -- row_stride-requires
+    (λ c κs. search rules)  -- bytes_past-requires
     (λ c. search shown_14)  -- returns-3
     (λ c. search rules)  -- cast-from
     (λ c. search from_fits)  -- add-from
-    (λ c κs. search rules)  -- corner-past-requires
-    (λ c κs. search rules)  -- order-of-requires
-    (λ c κs. search rules)  -- rows-past-requires
+    (λ c κs. search rules)  -- corner_past-requires
+    (λ c κs. search rules)  -- order_of-requires
+    (λ c κs. search rules)  -- rows_past-requires
     (λ c. search (shown_16, rows_found, bytes (known tie.After-shared-slice-known (search))))  -- returns-4
     (λ c. search rules)  -- sub-t29
     (λ c. ⊎_elim (λ w. search (shown_searched, rows_found, bytes (known tie.After-shared-slice-known (search)))) (λ w. search (shown_fitting, all_there)) c.if4.branch))  -- returns-5

@@ -16,21 +16,21 @@ unpacked_at_spec =
     (λ c κs. search rules)  -- unreadable-requires
     (λ c. search unpacked_13)  -- returns
     (λ c. search unpacked_nothing)  -- returns-2
-    (λ c κs. search rules)  -- offset-of-requires
-    (λ c κs. search rules)  -- row-stride-requires
-    (λ c κs. search rules)  -- bytes-past-requires
+    (λ c κs. search rules)  -- offset_of-requires
+    (λ c κs. search rules)  -- row_stride-requires
+    (λ c κs. search rules)  -- bytes_past-requires
     (λ c. search unpacked_14)  -- returns-3
     (λ c. search rules)  -- cast-from
     (λ c. search from_fits)  -- add-from
-    (λ c κs. search rules)  -- row-bytes-requires
+    (λ c κs. search rules)  -- row_bytes-requires
     (λ c. search rules)  -- mul-columns
-    (λ c κs. search rules)  -- corner-past-requires
-    (λ c κs. search rules)  -- order-of-requires
-    (λ c κs. search rules)  -- rows-past-requires
+    (λ c κs. search rules)  -- corner_past-requires
+    (λ c κs. search rules)  -- order_of-requires
+    (λ c κs. search rules)  -- rows_past-requires
     (λ c. search (unpacked_16, rows_found, bytes (known tie.After-shared-slice-known (search))))  -- returns-4
     (λ c.
     let found =
-    rows_found _ _ _ _ _ _ _ _ (known tie.Else2 (search)).if2.left (known tie.After-offset-of (search)).offset-of.ensures
-    (known tie.After-row-stride (search)).row-stride.ensures (known tie.After-bytes-past (search)).bytes_past.ensures (known tie.Else3 (search)).if3.left in
+    rows_found _ _ _ _ _ _ _ _ (known tie.Else2 (search)).if2.left (known tie.After-offset_of (search)).offset_of.ensures
+    (known tie.After-row_stride (search)).row_stride.ensures (known tie.After-bytes_past (search)).bytes_past.ensures (known tie.Else3 (search)).if3.left in
     search (unpacked_searched, found, bytes (known tie.After-shared-slice-known (search))))  -- returns-5
     (λ c. search (unpacked_fitting, all_there)))  -- returns-6

@@ -12,9 +12,9 @@ pub bit_at_spec : {M : Type 1} → statement M
 bit_at_spec =
     tie.close
     (tie.spec
-    (λ c κs. search rules)  -- held-byte-requires
+    (λ c κs. search rules)  -- held_byte-requires
     (λ c. search byte_near)  -- add-byte-at
-    (λ c κs. search rules)  -- byte-at-requires
+    (λ c κs. search rules)  -- byte_at-requires
     (λ c κs. search rules)  -- shown-requires
-    (λ c κs. search rules)  -- bit-of-requires
+    (λ c κs. search rules)  -- bit_of-requires
     (λ c. search (bit_read, bytes (known tie.After-shared-slice-known (search)))))  -- returns

@@ -23,7 +23,7 @@ corner_past_spec =
     (λ c. search no_row_past)  -- returns
     (λ c. search no_column_past)  -- returns-2
     (λ c. search no_block_past)  -- returns-3
-    (λ c κs. search rules)  -- room-from-requires
+    (λ c κs. search rules)  -- room_from-requires
     (λ c. search rules)  -- sub-result
     (λ c. omega (arith, sizes (search)))  -- mul-result
     (λ c. omega (arith, sizes (search)))  -- mul-result-2

@@ -36,7 +36,7 @@ row_past_spec =
     (λ c. omega (arith, sizes (search)))  -- add-if1-2
     (λ c. search row_fits)  -- returns
     (λ c. search row_clear_first)  -- loop-holds
-    (λ c κs. (omega arith, omega arith))  -- bit-at-requires
+    (λ c κs. (omega arith, omega arith))  -- bit_at-requires
     (λ c. omega (arith, sizes (search), column-size (search)))  -- mul-if2
     (λ c. omega (arith, sizes (search), column-size (search)))  -- add-if2
     (λ c. omega (arith, sizes (search), column-size (search)))  -- add-if2-2

@@ -32,12 +32,12 @@ rows_past_spec =
     invariant-loop
     decreases-loop
     (λ c. search no_block_past)  -- returns
-    (λ c κs. search rules)  -- room-from-requires
+    (λ c κs. search rules)  -- room_from-requires
     (λ c. search clear_first)  -- loop-holds
     (λ c. omega (arith, row-sizes (search)))  -- mul-row-past
     (λ c. omega (arith, row-sizes (search)))  -- mul-row-past-2
     (λ c. omega (arith, row-sizes (search)))  -- mul-row-past-3
-    (λ c κs. (omega arith, omega (arith, row-sizes (search)), omega (arith, row-sizes (search))))  -- row-past-requires
+    (λ c κs. (omega arith, omega (arith, row-sizes (search)), omega (arith, row-sizes (search))))  -- row_past-requires
     (λ c. search row_found)  -- returns-2
     (λ c. omega arith)  -- add-r
     (λ c. omega arith)  -- loop-less

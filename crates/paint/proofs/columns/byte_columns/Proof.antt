@@ -25,15 +25,15 @@ pub byte_columns_spec : {M : Type 1} → statement M
 byte_columns_spec =
     tie.close
     (tie.spec
-    (λ c κs. (omega arith, search room_for))  -- bit-blocks-requires
-    (λ c κs. (omega arith, search room_for))  -- bit-blocks-requires-2
-    (λ c κs. (omega arith, search room_for))  -- bit-blocks-requires-3
-    (λ c κs. (omega arith, search room_for))  -- bit-blocks-requires-4
-    (λ c κs. (omega arith, search room_for))  -- bit-blocks-requires-5
-    (λ c κs. (omega arith, search room_for))  -- bit-blocks-requires-6
-    (λ c κs. (omega arith, search room_for))  -- bit-blocks-requires-7
-    (λ c κs. (omega arith, search room_for))  -- bit-blocks-requires-8
-    (λ c κs. search rules)  -- run-bars-requires
+    (λ c κs. (omega arith, search room_for))  -- bit_blocks-requires
+    (λ c κs. (omega arith, search room_for))  -- bit_blocks-requires-2
+    (λ c κs. (omega arith, search room_for))  -- bit_blocks-requires-3
+    (λ c κs. (omega arith, search room_for))  -- bit_blocks-requires-4
+    (λ c κs. (omega arith, search room_for))  -- bit_blocks-requires-5
+    (λ c κs. (omega arith, search room_for))  -- bit_blocks-requires-6
+    (λ c κs. (omega arith, search room_for))  -- bit_blocks-requires-7
+    (λ c κs. (omega arith, search room_for))  -- bit_blocks-requires-8
+    (λ c κs. search rules)  -- run_bars-requires
     (λ c. search rules)  -- same-length
     (λ c. search drawn-by)  -- returns
     (λ c. search rules)  -- same-length-2

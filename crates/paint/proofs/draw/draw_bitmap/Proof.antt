@@ -7,13 +7,13 @@ pub draw_bitmap_spec : {M : Type 1} → statement M
 draw_bitmap_spec =
     tie.close
     (tie.spec
-    (λ c κs. search rules)  -- bitmap-ready-requires
+    (λ c κs. search rules)  -- bitmap_ready-requires
     (λ c. search rules)  -- enum-told
     (λ c. search width_fits)  -- cast-show-at
     (λ c. search height_fits)  -- cast-show-at-2
     (λ c. search stride_fits)  -- cast-show-at-3
     (λ c. search scale_fits)  -- cast-show-at-4
-    (λ c κs. search rules)  -- show-at-requires
+    (λ c κs. search rules)  -- show_at-requires
     (λ c. search rules)  -- enum-known-permit
     (λ c. search rules)  -- same-length
     (λ c. search bitmap_drawn)  -- returns

@@ -23,11 +23,11 @@ glyph_rows_spec =
     (tie.spec
     invariant-loop
     decreases-loop
-    (λ c κs. search rules)  -- row-bytes-requires
+    (λ c κs. search rules)  -- row_bytes-requires
     (λ c. search rules)  -- cast-count
     (λ c. search no_strip)  -- loop-holds
     (λ c. omega arith)  -- mul-c
-    (λ c κs. search rules)  -- held-byte-requires
+    (λ c κs. search rules)  -- held_byte-requires
     (λ c. search strip_fits)  -- add-strip
     (λ c. omega arith)  -- sub-strip
     (λ c. search strip_place_fits)  -- mul-strip
@@ -39,7 +39,7 @@ glyph_rows_spec =
     (λ c. omega arith)  -- loop-less
     (λ c.
     let so_far = (known (tie.At-loop invariant-loop decreases-loop) (search)).loop.inv in
-    let held = (known (tie.After-held-byte invariant-loop decreases-loop) (search)).held-byte.ensures in
+    let held = (known (tie.After-held_byte invariant-loop decreases-loop) (search)).held_byte.ensures in
     let octets = bytes (known (tie.After-shared-slice-known invariant-loop decreases-loop) (search)) in
     search (strip_more, strip_begins, so_far, held, octets))  -- loop-again
     (λ c. omega arith)  -- same-length

@@ -26,11 +26,11 @@ strip_spec =
     (λ c. search held_fits)  -- add-held
     (λ c. search held_there)  -- shared-slice-read-held
     (λ c κs. search rules)  -- shown-requires
-    (λ c κs. search rules)  -- first-columns-requires
+    (λ c κs. search rules)  -- first_columns-requires
     (λ c. search row_line)  -- mul-byte-columns
     (λ c. search row_place_lem)  -- mul-byte-columns-2
     (λ c. search row_place_on)  -- add-byte-columns
-    (λ c κs. search cut_room)  -- byte-columns-requires
+    (λ c κs. search cut_room)  -- byte_columns-requires
     (λ c. omega arith)  -- add-r
     (λ c. omega arith)  -- loop-less
     (λ c. ⊎_elim (λ w. search cut_more) (λ w. search blank_more) c.if1.branch)  -- loop-again

@@ -14,6 +14,6 @@ pub asked_of_spec : {M : Type 1} → statement M
 asked_of_spec =
     tie.close
     (tie.spec
-    (λ c κs. search rules)  -- request-of-requires
+    (λ c κs. search rules)  -- request_of-requires
     (λ c κs. search rules)  -- judged-requires
     (λ c. search of-request))  -- returns

@@ -58,7 +58,7 @@ judged_spec =
     (λ c. search (too_wide, tt {0}))  -- returns-3
     (λ c. search (no-height, tt {0}))  -- returns-4
     (λ c. search (too_many, tt {0}))  -- returns-5
-    (λ c κs. search rules)  -- is-known-requires
+    (λ c κs. search rules)  -- is_known-requires
     (λ c. search (unknown-mode, tt {0}))  -- returns-6
     (λ c. search rules)  -- cast-if7
     (λ c. search rules)  -- add-if7

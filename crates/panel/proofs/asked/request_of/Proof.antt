@@ -29,18 +29,18 @@ pub request_of_spec : {M : Type 1} → statement M
 request_of_spec =
     tie.close
     (tie.spec
-    (λ c κs. search rules)  -- u32-at-requires
+    (λ c κs. search rules)  -- u32_at-requires
     (λ c. search rules)  -- cast-width
-    (λ c κs. search rules)  -- u32-at-requires-2
+    (λ c κs. search rules)  -- u32_at-requires-2
     (λ c. search rules)  -- cast-height
-    (λ c κs. search rules)  -- u32-at-requires-3
+    (λ c κs. search rules)  -- u32_at-requires-3
     (λ c. search product-fits)  -- mul-t5
-    (λ c κs. search rules)  -- u32-at-requires-4
+    (λ c κs. search rules)  -- u32_at-requires-4
     (λ c. search rules)  -- cast-t7
-    (λ c κs. search rules)  -- u32-at-requires-5
-    (λ c κs. search rules)  -- u32-at-requires-6
-    (λ c κs. search rules)  -- both-halves-requires
-    (λ c κs. search rules)  -- wrap-of-requires
-    (λ c κs. search rules)  -- u32-at-requires-7
-    (λ c κs. search rules)  -- u32-at-requires-8
+    (λ c κs. search rules)  -- u32_at-requires-5
+    (λ c κs. search rules)  -- u32_at-requires-6
+    (λ c κs. search rules)  -- both_halves-requires
+    (λ c κs. search rules)  -- wrap_of-requires
+    (λ c κs. search rules)  -- u32_at-requires-7
+    (λ c κs. search rules)  -- u32_at-requires-8
     (λ c. search of-numbers))  -- returns

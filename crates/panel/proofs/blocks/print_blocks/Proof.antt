@@ -18,7 +18,7 @@ print_blocks_spec =
     invariant-loop
     decreases-loop
     (λ c. search rules)  -- loop-holds
-    (λ c κs. search rules)  -- print-two-requires
+    (λ c κs. search rules)  -- print_two-requires
     (λ c. search rules)  -- mul-row
     (λ c. search rules)  -- add-row
     (λ c. search rules)  -- loop-less

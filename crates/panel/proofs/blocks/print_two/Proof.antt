@@ -19,16 +19,16 @@ print_two_spec =
     decreases-loop
     (λ c. search rules)  -- loop-holds
     (λ c. search rules)  -- add-pixel-at
-    (λ c κs. search rules)  -- pixel-at-requires
+    (λ c κs. search rules)  -- pixel_at-requires
     (λ c. search rules)  -- add-pixel-at-2
     (λ c. search rules)  -- add-pixel-at-3
-    (λ c κs. search rules)  -- pixel-at-requires-2
-    (λ c κs. search rules)  -- with-room-requires
-    (λ c κs. search rules)  -- put-block-requires
+    (λ c κs. search rules)  -- pixel_at-requires-2
+    (λ c κs. search rules)  -- with_room-requires
+    (λ c κs. search rules)  -- put_block-requires
     (λ c. search rules)  -- add-x
     (λ c. search rules)  -- loop-less
     (λ c. search rules)  -- loop-again
-    (λ c κs. search rules)  -- with-room-requires-2
-    (λ c κs. search rules)  -- end-line-requires
+    (λ c κs. search rules)  -- with_room-requires-2
+    (λ c κs. search rules)  -- end_line-requires
     (λ c. search rules)  -- same-length
     (λ c. search rules))  -- returns

@@ -28,15 +28,15 @@ pub put_block_spec : {M : Type 1} → statement M
 put_block_spec =
     tie.close
     (tie.spec
-    (λ c κs. search rules)  -- put-one-requires
+    (λ c κs. search rules)  -- put_one-requires
     (λ c. search rules)  -- same-length
     (λ c. search (space, rules))  -- returns
-    (λ c κs. search rules)  -- put-mark-requires
+    (λ c κs. search rules)  -- put_mark-requires
     (λ c. search rules)  -- same-length-2
     (λ c. search (lower-half, rules))  -- returns-2
-    (λ c κs. search rules)  -- put-mark-requires-2
+    (λ c κs. search rules)  -- put_mark-requires-2
     (λ c. search rules)  -- same-length-3
     (λ c. search (upper-half, rules))  -- returns-3
-    (λ c κs. search rules)  -- put-mark-requires-3
+    (λ c κs. search rules)  -- put_mark-requires-3
     (λ c. search rules)  -- same-length-4
     (λ c. search (full, rules)))  -- returns-4

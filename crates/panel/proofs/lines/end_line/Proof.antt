@@ -9,7 +9,7 @@ pub end_line_spec : {M : Type 1} → statement M
 end_line_spec =
     tie.close
     (tie.spec
-    (λ c κs. search rules)  -- put-one-requires
+    (λ c κs. search rules)  -- put_one-requires
     (λ c. search rules)  -- slice-reshare-prefix-say
     (λ c. sym (length-take-le _ _ (omega arith)))  -- slice-aggregate-say
     (λ c κs. search rules)  -- say-requires

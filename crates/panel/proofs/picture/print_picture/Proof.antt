@@ -19,9 +19,9 @@ print_picture_spec =
     decreases-loop
     (λ c. search rules)  -- slice-aggregate-say-with
     (λ c. search rules)  -- slice-aggregate-say-with-2
-    (λ c κs. search rules)  -- say-with-requires
+    (λ c κs. search rules)  -- say_with-requires
     (λ c. search rules)  -- loop-holds
-    (λ c κs. search rules)  -- print-row-requires
+    (λ c κs. search rules)  -- print_row-requires
     (λ c. search rules)  -- add-row
     (λ c. search rules)  -- loop-less
     (λ c. search rules)  -- loop-again

@@ -18,14 +18,14 @@ print_row_spec =
     invariant-loop
     decreases-loop
     (λ c. search rules)  -- loop-holds
-    (λ c κs. search rules)  -- with-room-requires
+    (λ c κs. search rules)  -- with_room-requires
     (λ c. search rules)  -- add-pixel-at
-    (λ c κs. search rules)  -- pixel-at-requires
-    (λ c κs. search rules)  -- digit-of-requires
-    (λ c κs. search rules)  -- put-one-requires
+    (λ c κs. search rules)  -- pixel_at-requires
+    (λ c κs. search rules)  -- digit_of-requires
+    (λ c κs. search rules)  -- put_one-requires
     (λ c. search rules)  -- add-x
-    (λ c κs. search rules)  -- with-room-requires-2
-    (λ c κs. search rules)  -- end-line-requires
+    (λ c κs. search rules)  -- with_room-requires-2
+    (λ c κs. search rules)  -- end_line-requires
     (λ c. search rules)  -- loop-less
     (λ c. search rules)  -- loop-again
     (λ c. search rules)  -- loop-less-2

@@ -18,7 +18,7 @@ by_default_spec =
     tie.close
     (tie.spec
     (λ c. search rules)  -- enum-known-served
-    (λ c κs. search rules)  -- wants-glyph-requires
+    (λ c κs. search rules)  -- wants_glyph-requires
     (λ c. search rules)  -- enum-told
     (λ c. search one-shows)  -- returns
     (λ c. search rules))  -- returns-2

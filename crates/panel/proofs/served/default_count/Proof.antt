@@ -104,10 +104,10 @@ default_count_spec =
     invariant-loop
     decreases-loop
     (λ c. search counted-first)  -- loop-holds
-    (λ c κs. search rules)  -- step-at-requires
+    (λ c κs. search rules)  -- step_at-requires
     (λ c. search rules)  -- enum-known-here
     (λ c κs. search rules)  -- serve-requires
-    (λ c κs. search rules)  -- by-default-requires
+    (λ c κs. search rules)  -- by_default-requires
     (λ c. search rules)  -- cast-n
     (λ c. search count_fits)  -- add-n
     (λ c. search step_less)  -- loop-less

@@ -17,6 +17,6 @@ lacked_spec =
     (tie.spec
     (λ c. search rules)  -- enum-told
     (λ c. search rules)  -- enum-told-2
-    (λ c κs. search rules)  -- wants-glyph-requires
+    (λ c κs. search rules)  -- wants_glyph-requires
     (λ c. search rules)  -- returns
     (λ c. search none-shows))  -- returns-2

@@ -32,15 +32,15 @@ print_names_spec =
     invariant-loop
     decreases-loop
     (λ c. tt)  -- loop-holds
-    (λ c κs. search rules)  -- step-at-requires
+    (λ c κs. search rules)  -- step_at-requires
     (λ c. search rules)  -- enum-known-here
     (λ c κs. search rules)  -- serve-requires
-    (λ c κs. search rules)  -- by-default-requires
+    (λ c κs. search rules)  -- by_default-requires
     (λ c κs. search rules)  -- lacked-requires
     (λ c. search ends-after)  -- sub-print-one
     (λ c. search ends-after)  -- part-print-one-start
     (λ c. search ends-within)  -- part-print-one-end
-    (λ c κs. search rules)  -- print-one-requires
+    (λ c κs. search rules)  -- print_one-requires
     (λ c. search step_less)  -- loop-less
     (λ c. tt)  -- loop-again
     (λ c. search step_less)  -- loop-less-2

@@ -7,11 +7,11 @@ pub bounds_sized_spec : {M : Type 1} → statement M
 bounds_sized_spec =
     tie.close
     (tie.spec
-    (λ c κs. search rules)  -- bounds-hold-requires
-    (λ c κs. search rules)  -- height-of-requires
-    (λ c κs. search bounds_height)  -- natural-i32-requires
+    (λ c κs. search rules)  -- bounds_hold-requires
+    (λ c κs. search rules)  -- height_of-requires
+    (λ c κs. search bounds_height)  -- natural_i32-requires
     (λ c. search rules)  -- cast-height
-    (λ c κs. search bounds_width)  -- natural-i16-requires
+    (λ c κs. search bounds_width)  -- natural_i16-requires
     (λ c. search rules)  -- cast-width
     (λ c. search bounds_are)  -- returns
     (λ c. search bounds_11))  -- returns-2

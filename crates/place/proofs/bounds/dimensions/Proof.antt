@@ -17,7 +17,7 @@ pub dimensions_spec : {M : Type 1} → statement M
 dimensions_spec =
     tie.close
     (tie.spec
-    (λ c κs. search rules)  -- record-fits-requires
-    (λ c κs. search rules)  -- bounds-sized-requires
+    (λ c κs. search rules)  -- record_fits-requires
+    (λ c κs. search rules)  -- bounds_sized-requires
     returns
     returns-2)

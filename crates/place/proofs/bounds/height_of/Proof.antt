@@ -7,5 +7,5 @@ pub height_of_spec : {M : Type 1} → statement M
 height_of_spec =
     tie.close
     (tie.spec
-    (λ c κs. search rules)  -- sum-of-requires
+    (λ c κs. search rules)  -- sum_of-requires
     (λ c. search height_is))  -- returns

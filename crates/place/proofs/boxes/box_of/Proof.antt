@@ -8,11 +8,11 @@ pub box_of_spec : {M : Type 1} → statement M
 box_of_spec =
     tie.close
     (tie.spec
-    (λ c κs. search box_width)  -- natural-i16-requires
-    (λ c κs. search rules)  -- height-of-requires
-    (λ c κs. search box_height)  -- natural-i32-requires
-    (λ c κs. search box_top)  -- natural-i16-requires-2
-    (λ c κs. search box_ascent)  -- natural-i16-requires-3
+    (λ c κs. search box_width)  -- natural_i16-requires
+    (λ c κs. search rules)  -- height_of-requires
+    (λ c κs. search box_height)  -- natural_i32-requires
+    (λ c κs. search box_top)  -- natural_i16-requires-2
+    (λ c κs. search box_ascent)  -- natural_i16-requires-3
     (λ c. search box_below)  -- sub-pad-top
-    (λ c κs. search box_left)  -- natural-i16-requires-4
+    (λ c κs. search box_left)  -- natural_i16-requires-4
     (λ c. search box_is))  -- returns

@@ -8,6 +8,6 @@ boxed_spec =
     tie.close
     (tie.spec
     (λ c κs. search rules)  -- placeable-requires
-    (λ c κs. search boxed_asks)  -- box-of-requires
+    (λ c κs. search boxed_asks)  -- box_of-requires
     (λ c. search boxed_is)  -- returns
     (λ c. search boxed_11))  -- returns-2

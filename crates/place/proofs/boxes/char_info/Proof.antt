@@ -8,10 +8,10 @@ pub char_info_spec : {M : Type 1} → statement M
 char_info_spec =
     tie.close
     (tie.spec
-    (λ c κs. search rules)  -- glyph-of-requires
-    (λ c κs. search rules)  -- or-stand-in-requires
+    (λ c κs. search rules)  -- glyph_of-requires
+    (λ c κs. search rules)  -- or_stand_in-requires
     (λ c. search rules)  -- enum-known-served
-    (λ c κs. search rules)  -- info-of-requires
+    (λ c κs. search rules)  -- info_of-requires
     (λ c. search rules)  -- enum-known-info
     (λ c. search rules)  -- enum-known-info-2
     (λ c. search rules)  -- enum-known-served-2

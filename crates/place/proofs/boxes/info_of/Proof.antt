@@ -7,7 +7,7 @@ pub info_of_spec : {M : Type 1} → statement M
 info_of_spec =
     tie.close
     (tie.spec
-    (λ c κs. search rules)  -- metrics-of-requires
+    (λ c κs. search rules)  -- metrics_of-requires
     (λ c. search rules)  -- enum-known-measured
     (λ c κs. search rules)  -- boxed-requires
     (λ c. search rules)  -- enum-known-measured-2

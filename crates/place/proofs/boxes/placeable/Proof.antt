@@ -7,10 +7,10 @@ pub placeable_spec : {M : Type 1} → statement M
 placeable_spec =
     tie.close
     (tie.spec
-    (λ c κs. search rules)  -- is-natural-requires
-    (λ c κs. search rules)  -- is-natural-requires-2
-    (λ c κs. search rules)  -- is-natural-requires-3
-    (λ c κs. search rules)  -- height-of-requires
-    (λ c κs. search rules)  -- in-range-requires
-    (λ c κs. search rules)  -- at-most-requires
+    (λ c κs. search rules)  -- is_natural-requires
+    (λ c κs. search rules)  -- is_natural-requires-2
+    (λ c κs. search rules)  -- is_natural-requires-3
+    (λ c κs. search rules)  -- height_of-requires
+    (λ c κs. search rules)  -- in_range-requires
+    (λ c κs. search rules)  -- at_most-requires
     (λ c. search placeable_is))  -- returns

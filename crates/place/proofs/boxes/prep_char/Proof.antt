@@ -17,7 +17,7 @@ pub prep_char_spec : {M : Type 1} → statement M
 prep_char_spec =
     tie.close
     (tie.spec
-    (λ c κs. search rules)  -- record-fits-requires
-    (λ c κs. search rules)  -- char-info-requires
+    (λ c κs. search rules)  -- record_fits-requires
+    (λ c κs. search rules)  -- char_info-requires
     returns
     returns-2)

@@ -34,7 +34,7 @@ judged_spec =
     tie.close
     (tie.spec
     (λ c. search (unknown-kind, tt {0}))  -- returns
-    (λ c κs. search rules)  -- is-known-requires
+    (λ c κs. search rules)  -- is_known-requires
     (λ c. search (unknown-mode, tt {0}))  -- returns-2
     (λ c. search rules)  -- cast-if3
     (λ c. search rules)  -- add-if3

@@ -36,19 +36,19 @@ pub request_of_spec : {M : Type 1} → statement M
 request_of_spec =
     tie.close
     (tie.spec
-    (λ c κs. search rules)  -- u32-at-requires
+    (λ c κs. search rules)  -- u32_at-requires
     (λ c. search rules)  -- cast-width
-    (λ c κs. search rules)  -- u32-at-requires-2
+    (λ c κs. search rules)  -- u32_at-requires-2
     (λ c. search rules)  -- cast-height
-    (λ c κs. search rules)  -- u32-at-requires-3
-    (λ c κs. search rules)  -- u32-at-requires-4
+    (λ c κs. search rules)  -- u32_at-requires-3
+    (λ c κs. search rules)  -- u32_at-requires-4
     (λ c. search product-fits)  -- mul-t6
-    (λ c κs. search rules)  -- u32-at-requires-5
+    (λ c κs. search rules)  -- u32_at-requires-5
     (λ c. search rules)  -- cast-t8
-    (λ c κs. search rules)  -- u32-at-requires-6
+    (λ c κs. search rules)  -- u32_at-requires-6
     (λ c. search rules)  -- cast-t10
-    (λ c κs. search rules)  -- u32-at-requires-7
+    (λ c κs. search rules)  -- u32_at-requires-7
     (λ c. search rules)  -- cast-t12
-    (λ c κs. search rules)  -- u32-at-requires-8
-    (λ c κs. search rules)  -- u32-at-requires-9
+    (λ c κs. search rules)  -- u32_at-requires-8
+    (λ c κs. search rules)  -- u32_at-requires-9
     (λ c. search of-numbers))  -- returns

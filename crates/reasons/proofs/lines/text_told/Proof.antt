@@ -18,10 +18,10 @@ text_told_spec =
     invariant-loop
     decreases-loop
     (λ c. tt)  -- loop-holds
-    (λ c κs. search rules)  -- step-at-requires
+    (λ c κs. search rules)  -- step_at-requires
     (λ c. search rules)  -- enum-known-here
-    (λ c κs. search rules)  -- control-told-requires
-    (λ c κs. search rules)  -- code-told-requires
+    (λ c κs. search rules)  -- control_told-requires
+    (λ c κs. search rules)  -- code_told-requires
     (λ c. search step_less)  -- loop-less
     (λ c. tt)  -- loop-again
     (λ c. search step_less)  -- loop-less-2

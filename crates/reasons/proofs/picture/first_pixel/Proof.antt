@@ -23,9 +23,9 @@ pub first_pixel_spec : {M : Type 1} → statement M
 first_pixel_spec =
     tie.close
     (tie.spec
-    (λ c κs. search rules)  -- ok-place-requires
+    (λ c κs. search rules)  -- ok_place-requires
     (λ c. search stride_fits)  -- cast-result
     (λ c. search scale_fits)  -- cast-result-2
-    (λ c κs. search rules)  -- place-of-requires
+    (λ c κs. search rules)  -- place_of-requires
     (λ c. search rules)  -- returns
     (λ c. search rules))  -- returns-2

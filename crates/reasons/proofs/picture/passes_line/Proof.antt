@@ -35,7 +35,7 @@ pub passes_line_spec : {M : Type 1} → statement M
 passes_line_spec =
     tie.close
     (tie.spec
-    (λ c κs. search rules)  -- ok-place-requires
+    (λ c κs. search rules)  -- ok_place-requires
     (λ c. search some-line)  -- rem-result
     (λ c. search columns-fit)  -- mul-result
     (λ c. search end_fits)  -- add-result

@@ -16,7 +16,7 @@ all_codes_spec =
     invariant-loop
     decreases-loop
     (λ c. search rules)  -- loop-holds
-    (λ c κs. search rules)  -- with-glyph-requires
+    (λ c κs. search rules)  -- with_glyph-requires
     (λ c. search rules)  -- add-code
     (λ c. search rules)  -- loop-less
     (λ c. search rules)  -- loop-again

@@ -18,11 +18,11 @@ all_calls_spec =
     (λ c. search rules)  -- loop-holds
     (λ c. search rules)  -- cast-start
     (λ c. search rules)  -- mul-start
-    (λ c κs. search rules)  -- part-of-requires
-    (λ c κs. search rules)  -- kind-at-requires
+    (λ c κs. search rules)  -- part_of-requires
+    (λ c κs. search rules)  -- kind_at-requires
     (λ c κs. search rules)  -- changed-requires
-    (λ c κs. search rules)  -- text-of-requires
-    (λ c κs. search rules)  -- one-call-requires
+    (λ c κs. search rules)  -- text_of-requires
+    (λ c κs. search rules)  -- one_call-requires
     (λ c. search rules)  -- add-k
     (λ c. search rules)  -- loop-less
     (λ c. search rules)  -- loop-again

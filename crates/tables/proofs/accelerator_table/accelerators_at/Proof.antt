@@ -9,5 +9,5 @@ accelerators_at_spec =
     (tie.spec
     (λ c. search rules)  -- add-if1
     (λ c. search accelerators_past)  -- returns
-    (λ c κs. search rules)  -- accelerators-table-requires
+    (λ c κs. search rules)  -- accelerators_table-requires
     (λ c. search accelerators_inside))  -- returns-2

@@ -7,22 +7,22 @@ pub bitmaps_at_spec : {M : Type 1} → statement M
 bitmaps_at_spec =
     tie.close
     (tie.spec
-    (λ c κs. search rules)  -- format-at-requires
-    (λ c κs. search rules)  -- big-bit-requires
-    (λ c κs. search rules)  -- u32-at-requires
+    (λ c κs. search rules)  -- format_at-requires
+    (λ c κs. search rules)  -- big_bit-requires
+    (λ c κs. search rules)  -- u32_at-requires
     (λ c. search rules)  -- cast-sizes
     (λ c. search rules)  -- mul-sizes
     (λ c. search rules)  -- add-sizes
     (λ c. search rules)  -- add-sizes-2
-    (λ c κs. search rules)  -- pad-code-requires
+    (λ c κs. search rules)  -- pad_code-requires
     (λ c. search rules)  -- mul-u32-at
-    (λ c κs. search rules)  -- u32-at-requires-2
+    (λ c κs. search rules)  -- u32_at-requires-2
     (λ c. search rules)  -- cast-size
     (λ c. search rules)  -- add-bits
     (λ c. search rules)  -- add-if1
     (λ c. search bitmaps_past)  -- returns
-    (λ c κs. search rules)  -- pad-of-requires
-    (λ c κs. search rules)  -- unit-code-requires
-    (λ c κs. search rules)  -- top-bit-requires
+    (λ c κs. search rules)  -- pad_of-requires
+    (λ c κs. search rules)  -- unit_code-requires
+    (λ c κs. search rules)  -- top_bit-requires
     (λ c. search rules)  -- add-t16
     (λ c. search bitmaps_inside))  -- returns-2

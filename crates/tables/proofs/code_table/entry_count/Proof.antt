@@ -8,7 +8,7 @@ pub entry_count_spec : {M : Type 1} → statement M
 entry_count_spec =
     tie.close
     (tie.spec
-    (λ c κs. search rules)  -- span-of-requires
-    (λ c κs. search rules)  -- span-of-requires-2
+    (λ c κs. search rules)  -- span_of-requires
+    (λ c κs. search rules)  -- span_of-requires-2
     (λ c. search codes_small)  -- mul-result
     (λ c. search (product_is, codes_few)))  -- returns

@@ -18,7 +18,7 @@ pub codes_fit_spec : {M : Type 1} → statement M
 codes_fit_spec =
     tie.close
     (tie.spec
-    (λ c κs. search rules)  -- is-inside-requires
-    (λ c κs. search rules)  -- entry-count-requires
+    (λ c κs. search rules)  -- is_inside-requires
+    (λ c κs. search rules)  -- entry_count-requires
     (λ c. search rules)  -- mul-needed
     (λ c. search tests))  -- returns

@@ -15,5 +15,5 @@ pub is_inside_spec : {M : Type 1} → statement M
 is_inside_spec =
     tie.close
     (tie.spec
-    (λ c κs. search rules)  -- lies-in-requires
+    (λ c κs. search rules)  -- lies_in-requires
     (λ c. search from_start))  -- returns

@@ -17,8 +17,8 @@ pub metrics_fit_spec : {M : Type 1} → statement M
 metrics_fit_spec =
     tie.close
     (tie.spec
-    (λ c κs. search rules)  -- metric-bytes-requires
+    (λ c κs. search rules)  -- metric_bytes-requires
     (λ c. search rules)  -- cast-is-inside
     (λ c. search metrics_small)  -- mul-is-inside
-    (λ c κs. search rules)  -- is-inside-requires
+    (λ c κs. search rules)  -- is_inside-requires
     (λ c. search region))  -- returns

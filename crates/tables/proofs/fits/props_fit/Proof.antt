@@ -11,6 +11,6 @@ props_fit_spec =
     (tie.spec
     (λ c. search rules)  -- cast-is-inside
     (λ c. search rules)  -- mul-is-inside
-    (λ c κs. search rules)  -- is-inside-requires
-    (λ c κs. search rules)  -- is-inside-requires-2
+    (λ c κs. search rules)  -- is_inside-requires
+    (λ c κs. search rules)  -- is_inside-requires-2
     (λ c. search both_are))  -- returns

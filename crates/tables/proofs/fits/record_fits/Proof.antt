@@ -9,9 +9,9 @@ unfolding record_fits
 record_fits_spec =
     tie.close
     (tie.spec
-    (λ c κs. search rules)  -- props-fit-requires
-    (λ c κs. search rules)  -- metrics-fit-requires
-    (λ c κs. search rules)  -- bitmaps-fit-requires
-    (λ c κs. search rules)  -- codes-fit-requires
-    (λ c κs. search rules)  -- names-fit-requires
+    (λ c κs. search rules)  -- props_fit-requires
+    (λ c κs. search rules)  -- metrics_fit-requires
+    (λ c κs. search rules)  -- bitmaps_fit-requires
+    (λ c κs. search rules)  -- codes_fit-requires
+    (λ c κs. search rules)  -- names_fit-requires
     (λ c. search both_are))  -- returns

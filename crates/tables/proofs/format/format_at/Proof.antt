@@ -7,5 +7,5 @@ pub format_at_spec : {M : Type 1} → statement M
 format_at_spec =
     tie.close
     (tie.spec
-    (λ c κs. search rules)  -- u32-at-requires
-    (λ c. (simp (add-zero) at c.u32-at.ensures)))  -- returns
+    (λ c κs. search rules)  -- u32_at-requires
+    (λ c. (simp (add-zero) at c.u32_at.ensures)))  -- returns

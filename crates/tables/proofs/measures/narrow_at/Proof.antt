@@ -8,14 +8,14 @@ narrow_at_spec =
     tie.close
     (tie.spec
     (λ c κs. search rules)  -- reach-requires
-    (λ c κs. search rules)  -- byte-at-requires
-    (λ c κs. search rules)  -- metric-of-requires
-    (λ c κs. search rules)  -- byte-at-requires-2
-    (λ c κs. search rules)  -- metric-of-requires-2
-    (λ c κs. search rules)  -- byte-at-requires-3
-    (λ c κs. search rules)  -- metric-of-requires-3
-    (λ c κs. search rules)  -- byte-at-requires-4
-    (λ c κs. search rules)  -- metric-of-requires-4
-    (λ c κs. search rules)  -- byte-at-requires-5
-    (λ c κs. search rules)  -- metric-of-requires-5
+    (λ c κs. search rules)  -- byte_at-requires
+    (λ c κs. search rules)  -- metric_of-requires
+    (λ c κs. search rules)  -- byte_at-requires-2
+    (λ c κs. search rules)  -- metric_of-requires-2
+    (λ c κs. search rules)  -- byte_at-requires-3
+    (λ c κs. search rules)  -- metric_of-requires-3
+    (λ c κs. search rules)  -- byte_at-requires-4
+    (λ c κs. search rules)  -- metric_of-requires-4
+    (λ c κs. search rules)  -- byte_at-requires-5
+    (λ c κs. search rules)  -- metric_of-requires-5
     (λ c. search narrow))  -- returns

@@ -8,10 +8,10 @@ wide_at_spec =
     tie.close
     (tie.spec
     (λ c κs. search rules)  -- reach-requires
-    (λ c κs. search rules)  -- i16-at-requires
-    (λ c κs. search rules)  -- i16-at-requires-2
-    (λ c κs. search rules)  -- i16-at-requires-3
-    (λ c κs. search rules)  -- i16-at-requires-4
-    (λ c κs. search rules)  -- i16-at-requires-5
-    (λ c κs. search rules)  -- u16-at-requires
+    (λ c κs. search rules)  -- i16_at-requires
+    (λ c κs. search rules)  -- i16_at-requires-2
+    (λ c κs. search rules)  -- i16_at-requires-3
+    (λ c κs. search rules)  -- i16_at-requires-4
+    (λ c κs. search rules)  -- i16_at-requires-5
+    (λ c κs. search rules)  -- u16_at-requires
     (λ c. search wide))  -- returns

@@ -19,8 +19,8 @@ pub metric_count_spec : {M : Type 1} → statement M
 metric_count_spec =
     tie.close
     (tie.spec
-    (λ c κs. search rules)  -- u16-at-requires
+    (λ c κs. search rules)  -- u16_at-requires
     (λ c. search rules)  -- cast-result
-    (λ c κs. search rules)  -- u32-at-requires
+    (λ c κs. search rules)  -- u32_at-requires
     (λ c. search narrow-count)  -- returns
     (λ c. search wide-count))  -- returns-2

@@ -8,12 +8,12 @@ pub metrics_at_spec : {M : Type 1} → statement M
 metrics_at_spec =
     tie.close
     (tie.spec
-    (λ c κs. search rules)  -- big-bit-requires
-    (λ c κs. search rules)  -- compressed-bit-requires
-    (λ c κs. search rules)  -- metric-count-requires
-    (λ c κs. search rules)  -- metrics-from-requires
+    (λ c κs. search rules)  -- big_bit-requires
+    (λ c κs. search rules)  -- compressed_bit-requires
+    (λ c κs. search rules)  -- metric_count-requires
+    (λ c κs. search rules)  -- metrics_from-requires
     (λ c. search rules)  -- add-records
-    (λ c κs. search rules)  -- metric-bytes-requires
+    (λ c κs. search rules)  -- metric_bytes-requires
     (λ c. search rules)  -- cast-if1
     (λ c. search metrics_small)  -- mul-if1
     (λ c. search metrics_end_small)  -- add-if1

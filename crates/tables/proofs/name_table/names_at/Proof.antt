@@ -7,13 +7,13 @@ pub names_at_spec : {M : Type 1} → statement M
 names_at_spec =
     tie.close
     (tie.spec
-    (λ c κs. search rules)  -- format-at-requires
-    (λ c κs. search rules)  -- big-bit-requires
-    (λ c κs. search rules)  -- u32-at-requires
+    (λ c κs. search rules)  -- format_at-requires
+    (λ c κs. search rules)  -- big_bit-requires
+    (λ c κs. search rules)  -- u32_at-requires
     (λ c. search rules)  -- cast-before
     (λ c. search rules)  -- mul-before
     (λ c. search rules)  -- add-before
-    (λ c κs. search rules)  -- u32-at-requires-2
+    (λ c κs. search rules)  -- u32_at-requires-2
     (λ c. search rules)  -- cast-size
     (λ c. search rules)  -- add-strings
     (λ c. search rules)  -- add-strings-2

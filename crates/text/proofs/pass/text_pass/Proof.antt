@@ -34,17 +34,17 @@ text_pass_spec =
     invariant-loop
     decreases-loop
     (λ c. search walking_first)  -- loop-holds
-    (λ c κs. search rules)  -- step-at-requires
+    (λ c κs. search rules)  -- step_at-requires
     (λ c. search rules)  -- enum-known-here
-    (λ c κs. search pen_near)  -- placed-at-requires
-    (λ c κs. search (placed_near, lent_still))  -- turn-drawn-requires
+    (λ c κs. search pen_near)  -- placed_at-requires
+    (λ c κs. search (placed_near, lent_still))  -- turn_drawn-requires
     (λ c. search rules)  -- enum-known-drawn
     (λ c. search rules)  -- cast-dropped
     (λ c. omega (arith, (known (tie.Start invariant-loop decreases-loop) (search)).pre.1.0.is-short))  -- add-dropped
     (λ c κs.
     let settled = (known (tie.Start invariant-loop decreases-loop) (search)).pre.0 in
     let readable = (known (tie.Start invariant-loop decreases-loop) (search)).pre.1.0 in
-    (omega (arith, settled.scale-high), search (placed_near, settled, readable)))  -- pen-after-requires
+    (omega (arith, settled.scale-high), search (placed_near, settled, readable)))  -- pen_after-requires
     (λ c. search step_less)  -- loop-less
     (λ c. search (walking_next, (known (tie.Start invariant-loop decreases-loop) (search)).pre.0))  -- loop-again
     (λ c. search rules)  -- enum-known-drawn-2

@@ -7,8 +7,8 @@ pub turn_drawn_spec : {M : Type 1} → statement M
 turn_drawn_spec =
     tie.close
     (tie.spec
-    (λ c κs. search rules)  -- show-placed-requires
+    (λ c κs. search rules)  -- show_placed-requires
     (λ c. search rules)  -- same-length
     (λ c. (search inked_answer, search inked_pixels))  -- returns
-    (λ c κs. search rules)  -- placed-drawn-requires
+    (λ c κs. search rules)  -- placed_drawn-requires
     (λ c. (search rules, search dry_pixels)))  -- returns-2

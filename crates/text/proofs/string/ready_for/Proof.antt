@@ -9,13 +9,13 @@ pub ready_for_spec : {M : Type 1} → statement M
 ready_for_spec =
     tie.close
     (tie.spec
-    (λ c κs. search rules)  -- record-fits-requires
-    (λ c κs. search rules)  -- ok-place-requires
+    (λ c κs. search rules)  -- record_fits-requires
+    (λ c κs. search rules)  -- ok_place-requires
     (λ c κs. search rules)  -- guard-requires
     (λ c. search rules)  -- enum-told
     (λ c κs. search rules)  -- check-requires
     (λ c. search rules)  -- enum-told-2
-    (λ c κs. search rules)  -- bounds-sized-requires
+    (λ c κs. search rules)  -- bounds_sized-requires
     (λ c. search rules)  -- enum-known-size
     (λ c. search (line_fits (known tie.Start (search)).args.rec (known tie.Start (search)).args.lay))  -- mul-t18
     (λ c. search rules)  -- enum-known-size-2

@@ -11,7 +11,7 @@ char_answer_spec =
     (λ c. search rules)  -- enum-known-drawn
     (λ c. search rules)  -- enum-known-drawn-2
     (λ c. search rules)  -- cast-t7
-    (λ c κs. search rules)  -- no-info-requires
-    (λ c κs. search rules)  -- no-supplier-requires
+    (λ c κs. search rules)  -- no_info-requires
+    (λ c κs. search rules)  -- no_supplier-requires
     (λ c. search (matched char_answer))  -- returns
-    (λ c. search (matched char_answer, c.before.no-info.ensures, c.no-supplier.ensures)))  -- returns-2
+    (λ c. search (matched char_answer, c.before.no_info.ensures, c.no_supplier.ensures)))  -- returns-2

@@ -9,8 +9,8 @@ pub thalluskin_draw_bitmap_spec : {M : Type 1} → statement M
 thalluskin_draw_bitmap_spec =
     tie.close
     (tie.spec
-    (λ c κs. search rules)  -- stride-of-requires
-    (λ c κs. search rules)  -- draw-bitmap-requires
-    (λ c κs. search rules)  -- rows-answer-requires
+    (λ c κs. search rules)  -- stride_of-requires
+    (λ c κs. search rules)  -- draw_bitmap-requires
+    (λ c κs. search rules)  -- rows_answer-requires
     (λ c. search rules)  -- same-length
-    (λ c. search (called rows_answer, ← (known tie.After-stride-of (search)).stride-of.ensures, ← (known tie.After-draw-bitmap (search)).draw-bitmap.ensures.0)))  -- returns
+    (λ c. search (called rows_answer, ← (known tie.After-stride_of (search)).stride_of.ensures, ← (known tie.After-draw_bitmap (search)).draw_bitmap.ensures.0)))  -- returns

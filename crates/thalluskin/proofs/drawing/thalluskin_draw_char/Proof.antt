@@ -9,9 +9,9 @@ pub thalluskin_draw_char_spec : {M : Type 1} → statement M
 thalluskin_draw_char_spec =
     tie.close
     (tie.spec
-    (λ c κs. search rules)  -- mode-of-requires
-    (λ c κs. search rules)  -- stride-of-requires
-    (λ c κs. search rules)  -- draw-char-requires
-    (λ c κs. search rules)  -- char-answer-requires
+    (λ c κs. search rules)  -- mode_of-requires
+    (λ c κs. search rules)  -- stride_of-requires
+    (λ c κs. search rules)  -- draw_char-requires
+    (λ c κs. search rules)  -- char_answer-requires
     (λ c. search rules)  -- same-length
-    (λ c. search (called char_answer, ← (known tie.After-mode-of (search)).Mode-of.ensures, ← (known tie.After-stride-of (search)).stride-of.ensures, ← (known tie.After-draw-char (search)).draw-char.ensures.0)))  -- returns
+    (λ c. search (called char_answer, ← (known tie.After-mode_of (search)).Mode-of.ensures, ← (known tie.After-stride_of (search)).stride_of.ensures, ← (known tie.After-draw_char (search)).draw_char.ensures.0)))  -- returns

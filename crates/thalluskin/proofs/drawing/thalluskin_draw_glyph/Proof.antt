@@ -9,9 +9,9 @@ pub thalluskin_draw_glyph_spec : {M : Type 1} → statement M
 thalluskin_draw_glyph_spec =
     tie.close
     (tie.spec
-    (λ c κs. search rules)  -- mode-of-requires
-    (λ c κs. search rules)  -- stride-of-requires
-    (λ c κs. search rules)  -- draw-glyph-requires
-    (λ c κs. search rules)  -- rows-answer-requires
+    (λ c κs. search rules)  -- mode_of-requires
+    (λ c κs. search rules)  -- stride_of-requires
+    (λ c κs. search rules)  -- draw_glyph-requires
+    (λ c κs. search rules)  -- rows_answer-requires
     (λ c. search rules)  -- same-length
-    (λ c. search (called rows_answer, ← (known tie.After-mode-of (search)).Mode-of.ensures, ← (known tie.After-stride-of (search)).stride-of.ensures, ← (known tie.After-draw-glyph (search)).draw-glyph.ensures.0)))  -- returns
+    (λ c. search (called rows_answer, ← (known tie.After-mode_of (search)).Mode-of.ensures, ← (known tie.After-stride_of (search)).stride_of.ensures, ← (known tie.After-draw_glyph (search)).draw_glyph.ensures.0)))  -- returns

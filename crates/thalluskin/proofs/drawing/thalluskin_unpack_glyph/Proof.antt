@@ -9,9 +9,9 @@ pub thalluskin_unpack_glyph_spec : {M : Type 1} → statement M
 thalluskin_unpack_glyph_spec =
     tie.close
     (tie.spec
-    (λ c κs. search rules)  -- mode-of-requires
-    (λ c κs. search rules)  -- stride-of-requires
-    (λ c κs. search rules)  -- unpack-glyph-requires
-    (λ c κs. search rules)  -- unpack-answer-requires
+    (λ c κs. search rules)  -- mode_of-requires
+    (λ c κs. search rules)  -- stride_of-requires
+    (λ c κs. search rules)  -- unpack_glyph-requires
+    (λ c κs. search rules)  -- unpack_answer-requires
     (λ c. search rules)  -- same-length
-    (λ c. search (called unpack_answer, ← (known tie.After-mode-of (search)).Mode-of.ensures, ← (known tie.After-stride-of (search)).stride-of.ensures, ← (known tie.After-unpack-glyph (search)).unpack-glyph.ensures.0)))  -- returns
+    (λ c. search (called unpack_answer, ← (known tie.After-mode_of (search)).Mode-of.ensures, ← (known tie.After-stride_of (search)).stride_of.ensures, ← (known tie.After-unpack_glyph (search)).unpack_glyph.ensures.0)))  -- returns

@@ -7,6 +7,6 @@ pub stride_of_spec : {M : Type 1} → statement M
 stride_of_spec =
     tie.close
     (tie.spec
-    (λ c κs. search rules)  -- is-known-requires
+    (λ c κs. search rules)  -- is_known-requires
     (λ c. search stride_known)  -- returns
     (λ c. search stride_unknown))  -- returns-2

@@ -11,7 +11,7 @@ info_answer_spec =
     (λ c. search rules)  -- enum-known-prepared
     (λ c. search rules)  -- enum-known-prepared-2
     (λ c. search rules)  -- cast-t6
-    (λ c κs. search rules)  -- no-info-requires
-    (λ c κs. search rules)  -- no-supplier-requires
+    (λ c κs. search rules)  -- no_info-requires
+    (λ c κs. search rules)  -- no_supplier-requires
     (λ c. search (matched info_answer))  -- returns
-    (λ c. search (matched info_answer, c.before.no-info.ensures, c.no-supplier.ensures)))  -- returns-2
+    (λ c. search (matched info_answer, c.before.no_info.ensures, c.no_supplier.ensures)))  -- returns-2

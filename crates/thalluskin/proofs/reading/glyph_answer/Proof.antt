@@ -11,6 +11,6 @@ glyph_answer_spec =
     (λ c. search rules)  -- enum-known-found
     (λ c. search rules)  -- enum-known-found-2
     (λ c. search rules)  -- cast-t6
-    (λ c κs. search rules)  -- no-supplier-requires
+    (λ c κs. search rules)  -- no_supplier-requires
     (λ c. search (matched glyph_answer))  -- returns
-    (λ c. search (matched glyph_answer, c.no-supplier.ensures)))  -- returns-2
+    (λ c. search (matched glyph_answer, c.no_supplier.ensures)))  -- returns-2

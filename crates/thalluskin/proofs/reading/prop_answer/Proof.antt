@@ -17,7 +17,7 @@ prop_answer_spec =
     tie.close
     (tie.spec
     (λ c. search rules)  -- enum-known-value
-    (λ c κs. search rules)  -- no-span-requires
+    (λ c κs. search rules)  -- no_span-requires
     (λ c. search rules)  -- enum-known-value-2
     (λ c. search (of-value, c.no_span.ensures))  -- returns
     (λ c. search of-value))  -- returns-2

@@ -9,7 +9,7 @@ pub thalluskin_accel_spec : {M : Type 1} → statement M
 thalluskin_accel_spec =
     tie.close
     (tie.spec
-    (λ c κs. search rules)  -- get-accelerators-requires
+    (λ c κs. search rules)  -- get_accelerators-requires
     (λ c. search rules)  -- enum-known-answer
     (λ c. search rules)  -- enum-known-answer-2
     (λ c κs. search rules)  -- blank-requires

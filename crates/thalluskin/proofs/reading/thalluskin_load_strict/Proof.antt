@@ -8,6 +8,6 @@ pub thalluskin_load_strict_spec : {M : Type 1} → statement M
 thalluskin_load_strict_spec =
     tie.close
     (tie.spec
-    (λ c κs. search rules)  -- load-in-requires
-    (λ c κs. search rules)  -- font-answer-requires
+    (λ c κs. search rules)  -- load_in-requires
+    (λ c κs. search rules)  -- font_answer-requires
     (λ c. search (called font_answer)))  -- returns

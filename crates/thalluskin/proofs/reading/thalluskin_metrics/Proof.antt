@@ -8,10 +8,10 @@ pub thalluskin_metrics_spec : {M : Type 1} → statement M
 thalluskin_metrics_spec =
     tie.close
     (tie.spec
-    (λ c κs. search rules)  -- get-metrics-requires
+    (λ c κs. search rules)  -- get_metrics-requires
     (λ c. search rules)  -- enum-known-answer
     (λ c. search rules)  -- enum-known-answer-2
     (λ c. search rules)  -- cast-t8
-    (λ c κs. search rules)  -- no-metrics-requires
+    (λ c κs. search rules)  -- no_metrics-requires
     (λ c. search (call_matched metrics_answer))  -- returns
-    (λ c. search (call_matched metrics_answer, c.no-metrics.ensures)))  -- returns-2
+    (λ c. search (call_matched metrics_answer, c.no_metrics.ensures)))  -- returns-2

@@ -8,10 +8,10 @@ pub thalluskin_name_spec : {M : Type 1} → statement M
 thalluskin_name_spec =
     tie.close
     (tie.spec
-    (λ c κs. search rules)  -- get-name-requires
+    (λ c κs. search rules)  -- get_name-requires
     (λ c. search rules)  -- enum-known-answer
     (λ c. search rules)  -- enum-known-answer-2
     (λ c. search rules)  -- cast-t8
-    (λ c κs. search rules)  -- no-span-requires
+    (λ c κs. search rules)  -- no_span-requires
     (λ c. search (call_matched name_answer))  -- returns
     (λ c. search (call_matched name_answer, c.no_span.ensures)))  -- returns-2

@@ -9,12 +9,12 @@ pub thalluskin_property_spec : {M : Type 1} → statement M
 thalluskin_property_spec =
     tie.close
     (tie.spec
-    (λ c κs. search rules)  -- prop-at-requires
+    (λ c κs. search rules)  -- prop_at-requires
     (λ c. search rules)  -- enum-known-answer
-    (λ c κs. search rules)  -- prop-answer-requires
+    (λ c κs. search rules)  -- prop_answer-requires
     (λ c. search rules)  -- enum-known-answer-2
     (λ c. search rules)  -- cast-t8
-    (λ c κs. search rules)  -- no-span-requires
-    (λ c κs. search rules)  -- no-span-requires-2
+    (λ c κs. search rules)  -- no_span-requires
+    (λ c κs. search rules)  -- no_span-requires-2
     (λ c. search (call_matched property_answer))  -- returns
-    (λ c. search (call_matched property_answer, c.no-span2.ensures, (known tie.After-no-span (search)).no_span.ensures)))  -- returns-2
+    (λ c. search (call_matched property_answer, c.no_span2.ensures, (known tie.After-no_span (search)).no_span.ensures)))  -- returns-2

@@ -23,9 +23,9 @@ pub thalluskin_vet_spec : {M : Type 1} → statement M
 thalluskin_vet_spec =
     tie.close
     (tie.spec
-    (λ c κs. search rules)  -- is-known-requires
-    (λ c κs. search rules)  -- record-of-requires
-    (λ c κs. search rules)  -- font-answer-requires
+    (λ c κs. search rules)  -- is_known-requires
+    (λ c κs. search rules)  -- record_of-requires
+    (λ c κs. search rules)  -- font_answer-requires
     (λ c. search vetted-known)  -- returns
-    (λ c κs. search rules)  -- font-answer-requires-2
+    (λ c κs. search rules)  -- font_answer-requires-2
     (λ c. search vetted-unknown))  -- returns-2

@@ -9,8 +9,8 @@ pub thalluskin_why_spec : {M : Type 1} → statement M
 thalluskin_why_spec =
     tie.close
     (tie.spec
-    (λ c κs. search rules)  -- mode-of-requires
-    (λ c κs. search rules)  -- stride-of-requires
+    (λ c κs. search rules)  -- mode_of-requires
+    (λ c κs. search rules)  -- stride_of-requires
     (λ c κs. search rules)  -- why-requires
-    (λ c κs. search rules)  -- why-answer-requires
-    (λ c. search (called why_answer, ← (known tie.After-mode-of (search)).Mode-of.ensures, ← (known tie.After-stride-of (search)).stride-of.ensures)))  -- returns
+    (λ c κs. search rules)  -- why_answer-requires
+    (λ c. search (called why_answer, ← (known tie.After-mode_of (search)).Mode-of.ensures, ← (known tie.After-stride_of (search)).stride_of.ensures)))  -- returns

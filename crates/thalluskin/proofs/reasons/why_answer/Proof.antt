@@ -9,9 +9,9 @@ why_answer_spec =
     tie.close
     (tie.spec
     (λ c. search rules)  -- enum-known-told
-    (λ c κs. search rules)  -- reason-number-requires
+    (λ c κs. search rules)  -- reason_number-requires
     (λ c. search rules)  -- enum-known-told-2
     (λ c. search rules)  -- cast-t7
-    (λ c κs. search rules)  -- no-supplier-requires
-    (λ c. search (matched why_answer, c.reason-number.ensures))  -- returns
-    (λ c. search (matched why_answer, c.no-supplier.ensures)))  -- returns-2
+    (λ c κs. search rules)  -- no_supplier-requires
+    (λ c. search (matched why_answer, c.reason_number.ensures))  -- returns
+    (λ c. search (matched why_answer, c.no_supplier.ensures)))  -- returns-2

@@ -9,10 +9,10 @@ pub thalluskin_draw_string_spec : {M : Type 1} → statement M
 thalluskin_draw_string_spec =
     tie.close
     (tie.spec
-    (λ c κs. search rules)  -- mode-of-requires
-    (λ c κs. search rules)  -- wrap-of-requires
-    (λ c κs. search rules)  -- stride-of-requires
-    (λ c κs. search rules)  -- draw-string-requires
-    (λ c κs. search rules)  -- text-answer-requires
+    (λ c κs. search rules)  -- mode_of-requires
+    (λ c κs. search rules)  -- wrap_of-requires
+    (λ c κs. search rules)  -- stride_of-requires
+    (λ c κs. search rules)  -- draw_string-requires
+    (λ c κs. search rules)  -- text_answer-requires
     (λ c. search rules)  -- same-length
-    (λ c. search (called text_answer, ← (known tie.After-mode-of (search)).Mode-of.ensures, ← (known tie.After-wrap-of (search)).wrap-of.ensures, ← (known tie.After-stride-of (search)).stride-of.ensures, ← (known tie.After-draw-string (search)).draw-string.ensures.0)))  -- returns
+    (λ c. search (called text_answer, ← (known tie.After-mode_of (search)).Mode-of.ensures, ← (known tie.After-wrap_of (search)).wrap_of.ensures, ← (known tie.After-stride_of (search)).stride_of.ensures, ← (known tie.After-draw_string (search)).draw_string.ensures.0)))  -- returns

@@ -9,9 +9,9 @@ pub thalluskin_text_check_spec : {M : Type 1} → statement M
 thalluskin_text_check_spec =
     tie.close
     (tie.spec
-    (λ c κs. search rules)  -- mode-of-requires
-    (λ c κs. search rules)  -- wrap-of-requires
-    (λ c κs. search rules)  -- stride-of-requires
-    (λ c κs. search rules)  -- text-check-requires
-    (λ c κs. search rules)  -- text-answer-requires
-    (λ c. search (called text_answer, ← (known tie.After-mode-of (search)).Mode-of.ensures, ← (known tie.After-wrap-of (search)).wrap-of.ensures, ← (known tie.After-stride-of (search)).stride-of.ensures)))  -- returns
+    (λ c κs. search rules)  -- mode_of-requires
+    (λ c κs. search rules)  -- wrap_of-requires
+    (λ c κs. search rules)  -- stride_of-requires
+    (λ c κs. search rules)  -- text_check-requires
+    (λ c κs. search rules)  -- text_answer-requires
+    (λ c. search (called text_answer, ← (known tie.After-mode_of (search)).Mode-of.ensures, ← (known tie.After-wrap_of (search)).wrap_of.ensures, ← (known tie.After-stride_of (search)).stride_of.ensures)))  -- returns

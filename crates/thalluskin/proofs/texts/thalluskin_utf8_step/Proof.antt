@@ -8,7 +8,7 @@ pub thalluskin_utf8_step_spec : {M : Type 1} → statement M
 thalluskin_utf8_step_spec =
     tie.close
     (tie.spec
-    (λ c κs. search rules)  -- step-at-requires
+    (λ c κs. search rules)  -- step_at-requires
     (λ c. search rules)  -- enum-known-answer
     (λ c. search rules)  -- enum-told
     (λ c. search rules)  -- enum-known-answer-2

@@ -12,16 +12,16 @@ any_step_spec =
     (tie.spec
     (λ c. search past_end)  -- returns
     (λ c. search rules)  -- shared-slice-read-b1
-    (λ c κs. search rules)  -- lead-of-requires
-    (λ c κs. search rules)  -- ill-formed-requires
+    (λ c κs. search rules)  -- lead_of-requires
+    (λ c κs. search rules)  -- ill_formed-requires
     (λ c. search first_none)  -- returns-2
     (λ c. omega (arith, (known tie.After-shared-slice-known2 (search)).shared-slice-known2.given (known tie.Start (search)).args.i))  -- cast-t13
     (λ c. search rules)  -- add-t15
     (λ c. search step_one)  -- returns-3
-    (λ c κs. search rules)  -- byte-at-requires
-    (λ c κs. search rules)  -- byte-at-requires-2
-    (λ c κs. search rules)  -- byte-at-requires-3
+    (λ c κs. search rules)  -- byte_at-requires
+    (λ c κs. search rules)  -- byte_at-requires-2
+    (λ c κs. search rules)  -- byte_at-requires-3
     (λ c κs. search rules)  -- longer-requires
     (λ c. search step_longer)  -- returns-4
-    (λ c κs. search rules)  -- ill-formed-requires-2
+    (λ c κs. search rules)  -- ill_formed-requires-2
     (λ c. search second_none))  -- returns-5

@@ -12,5 +12,5 @@ step_at_spec =
     (λ c. search rules)  -- cast-t9
     (λ c. search rules)  -- add-t11
     (λ c. search step_ascii)  -- returns
-    (λ c κs. search rules)  -- any-step-requires
+    (λ c κs. search rules)  -- any_step-requires
     (λ c. search rules))  -- returns-2

@@ -21,7 +21,7 @@ walk_spec =
     invariant-loop
     decreases-loop
     (λ c. search answer_all)  -- loop-holds
-    (λ c κs. search rules)  -- any-step-requires
+    (λ c κs. search rules)  -- any_step-requires
     (λ c. search rules)  -- enum-known-here
     (λ c. search step_less)  -- loop-less
     (λ c. search answer_next)  -- loop-again

@@ -7,7 +7,7 @@ pub first_outside_spec : {M : Type 1} → statement M
 first_outside_spec =
     tie.close
     (tie.spec
-    (λ c κs. search rules)  -- one-byte-requires
+    (λ c κs. search rules)  -- one_byte-requires
     (λ c. search first_none)  -- returns
     (λ c. search rules)  -- cast-result
     (λ c. search rules)  -- cast-result-2

@@ -7,6 +7,6 @@ pub second_byte_spec : {M : Type 1} → statement M
 second_byte_spec =
     tie.close
     (tie.spec
-    (λ c κs. search rules)  -- one-byte-requires
+    (λ c κs. search rules)  -- one_byte-requires
     (λ c. search second_whole)  -- returns
     (λ c. search second_of_two))  -- returns-2

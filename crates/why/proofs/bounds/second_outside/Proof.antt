@@ -7,7 +7,7 @@ pub second_outside_spec : {M : Type 1} → statement M
 second_outside_spec =
     tie.close
     (tie.spec
-    (λ c κs. search rules)  -- second-byte-requires
+    (λ c κs. search rules)  -- second_byte-requires
     (λ c. search rules)  -- cast-result
     (λ c. search rules)  -- cast-result-2
     (λ c. search second_out))  -- returns

@@ -8,8 +8,8 @@ code_reason_spec =
     tie.close
     (tie.spec
     (λ c. search above_codes)  -- returns
-    (λ c κs. search rules)  -- first-outside-requires
+    (λ c κs. search rules)  -- first_outside-requires
     (λ c. search first_byte)  -- returns-2
-    (λ c κs. search rules)  -- second-outside-requires
+    (λ c κs. search rules)  -- second_outside-requires
     (λ c. search second_byte_lem)  -- returns-3
     (λ c. search empty_entry))  -- returns-4

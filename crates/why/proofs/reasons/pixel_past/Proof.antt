@@ -13,10 +13,10 @@ pixel_past_spec =
     tie.close
     (tie.spec
     (λ c. search no_pixel)  -- returns
-    (λ c κs. search rules)  -- offset-of-requires
-    (λ c κs. search rules)  -- row-stride-requires
+    (λ c κs. search rules)  -- offset_of-requires
+    (λ c κs. search rules)  -- row_stride-requires
     (λ c. search rules)  -- cast-from
     (λ c. search start_fits)  -- add-from
-    (λ c κs. search rules)  -- order-of-requires
-    (λ c κs. search rules)  -- rows-past-requires
+    (λ c κs. search rules)  -- order_of-requires
+    (λ c κs. search rules)  -- rows_past-requires
     (λ c. search (pixel_searched, bytes (known tie.After-shared-slice-known (search)))))  -- returns-2

@@ -7,10 +7,10 @@ pub placed_reason_spec : {M : Type 1} → statement M
 placed_reason_spec =
     tie.close
     (tie.spec
-    (λ c κs. search rules)  -- no-bitmap-requires
+    (λ c κs. search rules)  -- no_bitmap-requires
     (λ c. search no_bitmap_lem)  -- returns
     (λ c κs. search rules)  -- unreadable-requires
     (λ c. search bit_order)  -- returns-2
-    (λ c κs. search rules)  -- place-of-requires
-    (λ c κs. search rules)  -- rows-reason-requires
+    (λ c κs. search rules)  -- place_of-requires
+    (λ c κs. search rules)  -- rows_reason-requires
     (λ c. search by_rows))  -- returns-3

@@ -8,11 +8,11 @@ pub reason_of_spec : {M : Type 1} → statement M
 reason_of_spec =
     tie.close
     (tie.spec
-    (λ c κs. search rules)  -- glyph-of-requires
-    (λ c κs. search rules)  -- or-stand-in-requires
+    (λ c κs. search rules)  -- glyph_of-requires
+    (λ c κs. search rules)  -- or_stand_in-requires
     (λ c. search rules)  -- enum-known-served
-    (λ c κs. search rules)  -- glyph-reason-requires
+    (λ c κs. search rules)  -- glyph_reason-requires
     (λ c. search rules)  -- enum-told
-    (λ c κs. search rules)  -- code-reason-requires
+    (λ c κs. search rules)  -- code_reason-requires
     (λ c. search (some_served, served_in_steps))  -- returns
     (λ c. search (none_served, served_in_steps)))  -- returns-2

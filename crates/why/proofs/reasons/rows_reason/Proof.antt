@@ -7,13 +7,13 @@ pub rows_reason_spec : {M : Type 1} → statement M
 rows_reason_spec =
     tie.close
     (tie.spec
-    (λ c κs. search rules)  -- rows-drawn-requires
-    (λ c κs. search rules)  -- rows-lacking-requires
+    (λ c κs. search rules)  -- rows_drawn-requires
+    (λ c κs. search rules)  -- rows_lacking-requires
     (λ c. search bitmap_short)  -- returns
-    (λ c κs. search rows_there)  -- pixel-past-requires
+    (λ c κs. search rows_there)  -- pixel_past-requires
     (λ c. search buffer_short)  -- returns-2
     (λ c. search rules)  -- sub
     (λ c. search rows_cut)  -- returns-3
-    (λ c κs. search all_there)  -- some-bit-requires
+    (λ c κs. search all_there)  -- some_bit-requires
     (λ c. search is_drawn)  -- returns-4
     (λ c. search is_blank))  -- returns-5

@@ -7,5 +7,5 @@ pub some_bit_spec : {M : Type 1} → statement M
 some_bit_spec =
     tie.close
     (tie.spec
-    (λ c κs. search rules)  -- pixel-past-requires
+    (λ c κs. search rules)  -- pixel_past-requires
     (λ c. search bit_past))  -- returns
