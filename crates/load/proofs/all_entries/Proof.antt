@@ -4,18 +4,18 @@ use Rattle.load.proofs.Entries.{Walking, walk_begins, walk_goes_on, walk_stops, 
 use Rattle.load.proofs.all_entries.Statement.{statement}
 use Rattle.load.proofs.all_entries.Tie as tie
 
-abbrev invariant-loop : tie.invariant-loop
-invariant-loop s strict count g₀ k₀ g k = Walking strict s count k g
+abbrev invariant-loop-k : tie.invariant-loop-k
+invariant-loop-k s strict count g₀ k₀ g k = Walking strict s count k g
 
-abbrev decreases-loop : tie.decreases-loop
-decreases-loop s strict count g₀ k₀ g k = count - k
+abbrev decreases-loop-k : tie.decreases-loop-k
+decreases-loop-k s strict count g₀ k₀ g k = count - k
 
 pub all_entries_spec : {M : Type 1} → statement M
 all_entries_spec =
     tie.close
     (tie.spec
-    invariant-loop
-    decreases-loop
+    invariant-loop-k
+    decreases-loop-k
     (λ c κs. search rules)  -- nothing_yet-requires
     (λ c. search walk_begins)  -- loop-holds
     (λ c κs. search rules)  -- entry_at-requires

@@ -14,15 +14,15 @@ use Rattle.bitmaps.proofs.units.read_byte.Tie as tie
 past_end : (row : List ℕ) (o : Order) (j k : ℕ) → Octets row → k ≡ byte_of o (8 * j) → length row ≤ k → 0 ≡ row_byte row o 0 j
 past_end row o j k bytes held h = held_read row o j k 0 bytes held (sym (ap (shown_byte o) (get_or-eq_default row 0 h) ∙ blank_shown o))
 
-bytes : (c : tie.After-shared-slice-known) → Octets c.before.args.row.now
-bytes c = record { below = λ i. (c.shared-slice-known.given i).fits }
+bytes : (c : tie.After-shared_slice_known-1) → Octets c.before.args.row.now
+bytes c = record { below = λ i. (c.shared_slice_known-1.given i).fits }
 
 pub read_byte_spec : {M : Type 1} → statement M
 read_byte_spec =
     tie.close
     (tie.spec
     (λ c κs. search rules)  -- held_byte-requires
-    (λ c. search (past_end, bytes (known tie.After-shared-slice-known (search))))  -- returns
+    (λ c. search (past_end, bytes (known tie.After-shared_slice_known-1 (search))))  -- returns
     (λ c. search rules)  -- shared-slice-read-shown
     (λ c κs. search rules)  -- shown-requires
-    (λ c. search (held_read, bytes (known tie.After-shared-slice-known (search)))))  -- returns-2
+    (λ c. search (held_read, bytes (known tie.After-shared_slice_known-1 (search)))))  -- returns-2

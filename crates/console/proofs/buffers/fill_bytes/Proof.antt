@@ -5,18 +5,18 @@ use borrow.Author.Rules.{rules}
 use Rattle.console.proofs.buffers.fill_bytes.Statement.{statement}
 use Rattle.console.proofs.buffers.fill_bytes.Tie as tie
 
-abbrev invariant-loop : tie.invariant-loop
-invariant-loop buf₀ i₀ buf i = Filling buf₀ buf i
+abbrev invariant-loop-i : tie.invariant-loop-i
+invariant-loop-i buf₀ i₀ buf i = Filling buf₀ buf i
 
-abbrev decreases-loop : tie.decreases-loop
-decreases-loop buf₀ i₀ buf i = length buf₀ - i
+abbrev decreases-loop-i : tie.decreases-loop-i
+decreases-loop-i buf₀ i₀ buf i = length buf₀ - i
 
 pub fill_bytes_spec : {M : Type 1} → statement M
 fill_bytes_spec =
     tie.close
     (tie.spec
-    invariant-loop
-    decreases-loop
+    invariant-loop-i
+    decreases-loop-i
     (λ c. search filling_none)  -- loop-holds
     (λ c κs. search rules)  -- byte_before-requires
     (λ c. search rules)  -- slice-write-buf

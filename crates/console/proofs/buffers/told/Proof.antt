@@ -4,18 +4,18 @@ use borrow.Author.Rules.{rules}
 use Rattle.console.proofs.buffers.told.Statement.{statement}
 use Rattle.console.proofs.buffers.told.Tie as tie
 
-abbrev invariant-loop : tie.invariant-loop
-invariant-loop buf colour seen₀ i₀ seen i = Unit {0}
+abbrev invariant-loop-i : tie.invariant-loop-i
+invariant-loop-i buf colour seen₀ i₀ seen i = Unit {0}
 
-abbrev decreases-loop : tie.decreases-loop
-decreases-loop buf colour seen₀ i₀ seen i = length buf - i
+abbrev decreases-loop-i : tie.decreases-loop-i
+decreases-loop-i buf colour seen₀ i₀ seen i = length buf - i
 
 pub told_spec : {M : Type 1} → statement M
 told_spec =
     tie.close
     (tie.spec
-    invariant-loop
-    decreases-loop
+    invariant-loop-i
+    decreases-loop-i
     (λ c κs. search rules)  -- nothing_seen-requires
     (λ c. search rules)  -- loop-holds
     (λ c. search rules)  -- mul-with-pixel

@@ -4,18 +4,18 @@ use borrow.Author.Rules.{rules}
 use Rattle.console.proofs.words.next_of.Statement.{statement}
 use Rattle.console.proofs.words.next_of.Tie as tie
 
-abbrev invariant-loop : tie.invariant-loop
-invariant-loop text from c at₀ at = (from ≤ at) × (at ≤ length text)
+abbrev invariant-loop-at : tie.invariant-loop-at
+invariant-loop-at text from c at₀ at = (from ≤ at) × (at ≤ length text)
 
-abbrev decreases-loop : tie.decreases-loop
-decreases-loop text from c at₀ at = length text - at
+abbrev decreases-loop-at : tie.decreases-loop-at
+decreases-loop-at text from c at₀ at = length text - at
 
 pub next_of_spec : {M : Type 1} → statement M
 next_of_spec =
     tie.close
     (tie.spec
-    invariant-loop
-    decreases-loop
+    invariant-loop-at
+    decreases-loop-at
     (λ c. search rules)  -- loop-holds
     (λ c. search rules)  -- shared-slice-read-if1
     (λ c. search rules)  -- returns

@@ -6,18 +6,18 @@ use borrow.Author.Rules.{rules}
 use Rattle.console.proofs.words.say_signed.Statement.{statement}
 use Rattle.console.proofs.words.say_signed.Tie as tie
 
-abbrev invariant-loop : tie.invariant-loop
-invariant-loop text numbers at₀ i₀ at i = Unit {0}
+abbrev invariant-loop-i : tie.invariant-loop-i
+invariant-loop-i text numbers at₀ i₀ at i = Unit {0}
 
-abbrev decreases-loop : tie.decreases-loop
-decreases-loop text numbers at₀ i₀ at i = length numbers - i
+abbrev decreases-loop-i : tie.decreases-loop-i
+decreases-loop-i text numbers at₀ i₀ at i = length numbers - i
 
 pub say_signed_spec : {M : Type 1} → statement M
 say_signed_spec =
     tie.close
     (tie.spec
-    invariant-loop
-    decreases-loop
+    invariant-loop-i
+    decreases-loop-i
     (λ c κs. search rules)  -- say_to_mark-requires
     (λ c. search rules)  -- loop-holds
     (λ c. search rules)  -- mul-signed

@@ -4,18 +4,18 @@ use borrow.Author.Rules.{rules}
 use Rattle.console.proofs.words.start_of.Statement.{statement}
 use Rattle.console.proofs.words.start_of.Tie as tie
 
-abbrev invariant-loop : tie.invariant-loop
-invariant-loop list which at₀ k₀ at k = at ≤ length list
+abbrev invariant-loop-k : tie.invariant-loop-k
+invariant-loop-k list which at₀ k₀ at k = at ≤ length list
 
-abbrev decreases-loop : tie.decreases-loop
-decreases-loop list which at₀ k₀ at k = which - k
+abbrev decreases-loop-k : tie.decreases-loop-k
+decreases-loop-k list which at₀ k₀ at k = which - k
 
 pub start_of_spec : {M : Type 1} → statement M
 start_of_spec =
     tie.close
     (tie.spec
-    invariant-loop
-    decreases-loop
+    invariant-loop-k
+    decreases-loop-k
     (λ c. search rules)  -- loop-holds
     (λ c κs. search rules)  -- next_of-requires
     (λ c κs. search rules)  -- after-requires

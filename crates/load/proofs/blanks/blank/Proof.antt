@@ -7,4 +7,4 @@ blank_spec =
     tie.close
     (tie.spec
     (λ c κs. search rules)  -- no_accelerators-requires
-    (λ c. rw c.no_accelerators.ensures))  -- returns
+    (λ c. rw c.no_accelerators-accel.ensures))  -- returns

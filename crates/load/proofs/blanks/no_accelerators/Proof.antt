@@ -3,7 +3,7 @@ use Rattle.load.proofs.blanks.no_accelerators.Statement.{statement}
 use Rattle.load.proofs.blanks.no_accelerators.Tie as tie
 
 returns : tie.Need-returns
-returns c = rw (c.before.no_metrics.ensures, c.no_metrics2.ensures)
+returns c = rw (c.before.no_metrics-minbounds.ensures, c.no_metrics-maxbounds.ensures)
 
 pub no_accelerators_spec : {M : Type 1} → statement M
 no_accelerators_spec =

@@ -7,4 +7,4 @@ nothing_yet_spec =
     tie.close
     (tie.spec
     (λ c κs. search rules)  -- blank-requires
-    (λ c. rw c.blank.ensures))  -- returns
+    (λ c. rw c.blank-tables.ensures))  -- returns

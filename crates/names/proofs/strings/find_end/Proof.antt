@@ -8,18 +8,18 @@ use Rattle.names.proofs.Zeros.{zero_here, zero_more, zero_none}
 use Rattle.names.proofs.strings.find_end.Statement.{statement}
 use Rattle.names.proofs.strings.find_end.Tie as tie
 
-abbrev invariant-loop : tie.invariant-loop
-invariant-loop s at left k₀ k = (k ≤ left) × (zero_from s at (left - k) k ≡ zero_from s at left 0)
+abbrev invariant-loop-k : tie.invariant-loop-k
+invariant-loop-k s at left k₀ k = (k ≤ left) × (zero_from s at (left - k) k ≡ zero_from s at left 0)
 
-abbrev decreases-loop : tie.decreases-loop
-decreases-loop s at left k₀ k = left - k
+abbrev decreases-loop-k : tie.decreases-loop-k
+decreases-loop-k s at left k₀ k = left - k
 
 pub find_end_spec : {M : Type 1} → statement M
 find_end_spec =
     tie.close
     (tie.spec
-    invariant-loop
-    decreases-loop
+    invariant-loop-k
+    decreases-loop-k
     (λ c. (search rules, simp sub-zero))  -- loop-holds
     (λ c. search rules)  -- add-if1
     (λ c. search rules)  -- shared-slice-read-if1

@@ -15,7 +15,7 @@ any_step_spec =
     (λ c κs. search rules)  -- lead_of-requires
     (λ c κs. search rules)  -- ill_formed-requires
     (λ c. search first_none)  -- returns-2
-    (λ c. omega (arith, (known tie.After-shared-slice-known2 (search)).shared-slice-known2.given (known tie.Start (search)).args.i))  -- cast-t13
+    (λ c. omega (arith, (known tie.After-shared_slice_known-2-1 (search)).shared_slice_known-2-1.given (known tie.Start (search)).args.i))  -- cast-t13
     (λ c. search rules)  -- add-t15
     (λ c. search step_one)  -- returns-3
     (λ c κs. search rules)  -- byte_at-requires

@@ -8,18 +8,18 @@ use borrow.Author.Rules.{rules}
 use Rattle.utf8.proofs.whole.walk.Statement.{statement}
 use Rattle.utf8.proofs.whole.walk.Tie as tie
 
-abbrev invariant-loop : tie.invariant-loop
-invariant-loop text i₀ i = Answer text i (checked (decoded text))
+abbrev invariant-loop-code : tie.invariant-loop-code
+invariant-loop-code text i₀ i = Answer text i (checked (decoded text))
 
-abbrev decreases-loop : tie.decreases-loop
-decreases-loop text i₀ i = length text - i
+abbrev decreases-loop-code : tie.decreases-loop-code
+decreases-loop-code text i₀ i = length text - i
 
 pub walk_spec : {M : Type 1} → statement M
 walk_spec =
     tie.close
     (tie.spec
-    invariant-loop
-    decreases-loop
+    invariant-loop-code
+    decreases-loop-code
     (λ c. search answer_all)  -- loop-holds
     (λ c κs. search rules)  -- any_step-requires
     (λ c. search rules)  -- enum-known-here
