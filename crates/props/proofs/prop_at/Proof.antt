@@ -5,11 +5,11 @@ use Rattle.props.specs.declared.PropFound.{PropFound}
 use Rattle.props.proofs.prop_at.Statement.{statement}
 use Rattle.props.proofs.prop_at.Tie as tie
 
-returns : tie.Need-returns
+returns : tie.Need-returns-then-record_fits
 unfolding prop_at
 returns c = search tested_answers
 
-returns-2 : tie.Need-returns-2
+returns-2 : tie.Need-returns-else-record_fits
 unfolding prop_at
 returns-2 c = search (tested_6 PropFound.Refused)
 

@@ -9,18 +9,18 @@ use borrow.Author.Rules.{rules}
 use Rattle.vet.proofs.first_code.Statement.{statement}
 use Rattle.vet.proofs.first_code.Tie as tie
 
-abbrev invariant-loop : tie.invariant-loop
-invariant-loop s rec end code₀ code = first_fault (code_fault s rec) (end - code) code ≡ first_fault (code_fault s rec) 65536 0
+abbrev invariant-loop-code : tie.invariant-loop-code
+invariant-loop-code s rec end code₀ code = first_fault (code_fault s rec) (end - code) code ≡ first_fault (code_fault s rec) 65536 0
 
-abbrev decreases-loop : tie.decreases-loop
-decreases-loop s rec end code₀ code = end - code
+abbrev decreases-loop-code : tie.decreases-loop-code
+decreases-loop-code s rec end code₀ code = end - code
 
 pub first_code_spec : {M : Type 1} → statement M
 first_code_spec =
     tie.close
     (tie.spec
-    invariant-loop
-    decreases-loop
+    invariant-loop-code
+    decreases-loop-code
     (λ c κs. search rules)  -- code_range-requires
     (λ c. search codes_by_range)  -- loop-holds
     (λ c κs. search rules)  -- code_fault-requires

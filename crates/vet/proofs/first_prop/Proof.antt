@@ -9,18 +9,18 @@ use borrow.Author.Rules.{rules}
 use Rattle.vet.proofs.first_prop.Statement.{statement}
 use Rattle.vet.proofs.first_prop.Tie as tie
 
-abbrev invariant-loop : tie.invariant-loop
-invariant-loop s rec count i₀ i = first_fault (prop_fault s rec) (count - i) i ≡ first_fault (prop_fault s rec) count 0
+abbrev invariant-loop-i : tie.invariant-loop-i
+invariant-loop-i s rec count i₀ i = first_fault (prop_fault s rec) (count - i) i ≡ first_fault (prop_fault s rec) count 0
 
-abbrev decreases-loop : tie.decreases-loop
-decreases-loop s rec count i₀ i = count - i
+abbrev decreases-loop-i : tie.decreases-loop-i
+decreases-loop-i s rec count i₀ i = count - i
 
 pub first_prop_spec : {M : Type 1} → statement M
 first_prop_spec =
     tie.close
     (tie.spec
-    invariant-loop
-    decreases-loop
+    invariant-loop-i
+    decreases-loop-i
     (λ c. simp sub-zero)  -- loop-holds
     (λ c κs. search rules)  -- prop_fault-requires
     (λ c. search rules)  -- cast-t7

@@ -7,8 +7,8 @@ use borrow.Author.Rules.{rules}
 use Rattle.outcome.proofs.check.shown_at.Statement.{statement}
 use Rattle.outcome.proofs.check.shown_at.Tie as tie
 
-bytes : (c : tie.After-shared-slice-known) → Octets c.before.args.s.now
-bytes c = record { below = λ i. (c.shared-slice-known.given i).fits }
+bytes : (c : tie.After-shared_slice_known-1) → Octets c.before.args.s.now
+bytes c = record { below = λ i. (c.shared_slice_known-1.given i).fits }
 
 pub shown_at_spec : {M : Type 1} → statement M
 shown_at_spec =
@@ -28,6 +28,6 @@ shown_at_spec =
     (λ c κs. search rules)  -- corner_past-requires
     (λ c κs. search rules)  -- order_of-requires
     (λ c κs. search rules)  -- rows_past-requires
-    (λ c. search (shown_16, rows_found, bytes (known tie.After-shared-slice-known (search))))  -- returns-4
+    (λ c. search (shown_16, rows_found, bytes (known tie.After-shared_slice_known-1 (search))))  -- returns-4
     (λ c. search rules)  -- sub-t29
-    (λ c. ⊎_elim (λ w. search (shown_searched, rows_found, bytes (known tie.After-shared-slice-known (search)))) (λ w. search (shown_fitting, all_there)) c.if4.branch))  -- returns-5
+    (λ c. ⊎_elim (λ w. search (shown_searched, rows_found, bytes (known tie.After-shared_slice_known-1 (search)))) (λ w. search (shown_fitting, all_there)) c.if-corner_past.branch))  -- returns-5

@@ -6,8 +6,8 @@ use borrow.Author.Rules.{rules}
 use Rattle.outcome.proofs.check.unpacked_at.Statement.{statement}
 use Rattle.outcome.proofs.check.unpacked_at.Tie as tie
 
-bytes : (c : tie.After-shared-slice-known) → Octets c.before.args.s.now
-bytes c = record { below = λ i. (c.shared-slice-known.given i).fits }
+bytes : (c : tie.After-shared_slice_known-1) → Octets c.before.args.s.now
+bytes c = record { below = λ i. (c.shared_slice_known-1.given i).fits }
 
 pub unpacked_at_spec : {M : Type 1} → statement M
 unpacked_at_spec =
@@ -27,10 +27,10 @@ unpacked_at_spec =
     (λ c κs. search rules)  -- corner_past-requires
     (λ c κs. search rules)  -- order_of-requires
     (λ c κs. search rules)  -- rows_past-requires
-    (λ c. search (unpacked_16, rows_found, bytes (known tie.After-shared-slice-known (search))))  -- returns-4
+    (λ c. search (unpacked_16, rows_found, bytes (known tie.After-shared_slice_known-1 (search))))  -- returns-4
     (λ c.
     let found =
-    rows_found _ _ _ _ _ _ _ _ (known tie.Else2 (search)).if2.left (known tie.After-offset_of (search)).offset_of.ensures
-    (known tie.After-row_stride (search)).row_stride.ensures (known tie.After-bytes_past (search)).bytes_past.ensures (known tie.Else3 (search)).if3.left in
-    search (unpacked_searched, found, bytes (known tie.After-shared-slice-known (search))))  -- returns-5
+    rows_found _ _ _ _ _ _ _ _ (known tie.Else-height-width (search)).if-height-width.left (known tie.After-offset_of-first (search)).offset_of-first.ensures
+    (known tie.After-row_stride-step (search)).row_stride-step.ensures (known tie.After-bytes_past (search)).bytes_past.ensures (known tie.Else-bytes_past (search)).if-bytes_past.left in
+    search (unpacked_searched, found, bytes (known tie.After-shared_slice_known-1 (search))))  -- returns-5
     (λ c. search (unpacked_fitting, all_there)))  -- returns-6

@@ -9,26 +9,26 @@ use Rattle.outcome.proofs.RowSearch.{RowClear, row_clear_first, row_clear_next, 
 use Rattle.outcome.proofs.past.row_past.Statement.{statement}
 use Rattle.outcome.proofs.past.row_past.Tie as tie
 
-abbrev invariant-loop : tie.invariant-loop
-invariant-loop s order first row at columns room stride scale side down count c₀ c = RowClear (bit_at s order (first + row)) (place_at at stride scale) columns room c
+abbrev invariant-loop-c : tie.invariant-loop-c
+invariant-loop-c s order first row at columns room stride scale side down count c₀ c = RowClear (bit_at s order (first + row)) (place_at at stride scale) columns room c
 
-abbrev decreases-loop : tie.decreases-loop
-decreases-loop s order first row at columns room stride scale side down count c₀ c = columns - c
+abbrev decreases-loop-c : tie.decreases-loop-c
+decreases-loop-c s order first row at columns room stride scale side down count c₀ c = columns - c
 
 -- the places of a block's last line and of a column stay small
 
-sizes : (c : tie.Start invariant-loop decreases-loop) → ((c.args.scale - 1) * c.args.stride ≤ 255 * 65535) × (c.args.columns * c.args.scale ≤ 4294967295 * 255)
+sizes : (c : tie.Start invariant-loop-c decreases-loop-c) → ((c.args.scale - 1) * c.args.stride ≤ 255 * 65535) × (c.args.columns * c.args.scale ≤ 4294967295 * 255)
 sizes c = (within _ 255 _ 65535 (omega arith) (omega arith), within _ 4294967295 _ 255 (omega arith) (omega arith))
 
-column-size : (c : tie.At-loop invariant-loop decreases-loop) → c.loop.c * c.before.before.before.args.scale ≤ 4294967295 * 255
+column-size : (c : tie.At-loop-c invariant-loop-c decreases-loop-c) → c.loop-c.c * c.before.before.before.args.scale ≤ 4294967295 * 255
 column-size c = within _ 4294967295 _ 255 (omega arith) (omega arith)
 
 pub row_past_spec : {M : Type 1} → statement M
 row_past_spec =
     tie.close
     (tie.spec
-    invariant-loop
-    decreases-loop
+    invariant-loop-c
+    decreases-loop-c
     (λ c. omega arith)  -- sub-down
     (λ c. omega (arith, sizes (search)))  -- mul-down
     (λ c. omega (arith, sizes (search)))  -- add-if1

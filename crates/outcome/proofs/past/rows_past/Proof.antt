@@ -8,18 +8,18 @@ use borrow.Author.Rules.{rules}
 use Rattle.outcome.proofs.past.rows_past.Statement.{statement}
 use Rattle.outcome.proofs.past.rows_past.Tie as tie
 
-abbrev invariant-loop : tie.invariant-loop
-invariant-loop s order first step columns n len p stride scale room r₀ r = Clear s order first step columns n room stride scale r
+abbrev invariant-loop-r : tie.invariant-loop-r
+invariant-loop-r s order first step columns n len p stride scale room r₀ r = Clear s order first step columns n room stride scale r
 
-abbrev decreases-loop : tie.decreases-loop
-decreases-loop s order first step columns n len p stride scale room r₀ r = n - r
+abbrev decreases-loop-r : tie.decreases-loop-r
+decreases-loop-r s order first step columns n len p stride scale room r₀ r = n - r
 
 -- a row's bytes and its pixels begin near
-row-sizes : (c : tie.At-loop invariant-loop decreases-loop) → (c.loop.r * c.before.before.before.before.args.step ≤ 65535 * 4294967295)
-    × (c.loop.r * c.before.before.before.before.args.stride ≤ 65535 * 65535)
-    × (c.loop.r * c.before.before.before.before.args.stride * c.before.before.before.before.args.scale ≤ 65535 * 65535 * 255)
+row-sizes : (c : tie.At-loop-r invariant-loop-r decreases-loop-r) → (c.loop-r.r * c.before.before.before.before.args.step ≤ 65535 * 4294967295)
+    × (c.loop-r.r * c.before.before.before.before.args.stride ≤ 65535 * 65535)
+    × (c.loop-r.r * c.before.before.before.before.args.stride * c.before.before.before.before.args.scale ≤ 65535 * 65535 * 255)
 row-sizes c =
-    let few = c.loop.invariant.inside in (
+    let few = c.loop-r.invariant.inside in (
       within _ 65535 _ 4294967295 (omega arith) (omega arith),
       within _ 65535 _ 65535 (omega arith) (omega arith),
       within _ (65535 * 65535) _ 255 (within _ 65535 _ 65535 (omega arith) (omega arith)) (omega arith),
@@ -29,8 +29,8 @@ pub rows_past_spec : {M : Type 1} → statement M
 rows_past_spec =
     tie.close
     (tie.spec
-    invariant-loop
-    decreases-loop
+    invariant-loop-r
+    decreases-loop-r
     (λ c. search no_block_past)  -- returns
     (λ c κs. search rules)  -- room_from-requires
     (λ c. search clear_first)  -- loop-holds

@@ -5,11 +5,11 @@ use Rattle.tables.proofs.TestedRecord.{tested_6, tested_answers}
 use Rattle.place.proofs.bounds.dimensions.Statement.{statement}
 use Rattle.place.proofs.bounds.dimensions.Tie as tie
 
-returns : tie.Need-returns
+returns : tie.Need-returns-then-record_fits
 unfolding dimensions
 returns c = search tested_answers
 
-returns-2 : tie.Need-returns-2
+returns-2 : tie.Need-returns-else-record_fits
 unfolding dimensions
 returns-2 c = search (tested_6 Sized.Refused)
 
