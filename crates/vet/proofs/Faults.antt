@@ -46,9 +46,9 @@ module _ (s : List ℕ) (rec : Record) (i : GlyphInfo) (none : Bool) (none_is : 
   no_bitmap_lem e = rw (← none_is, e)
 
   module _ (short : Bool) (there : none ≡ false) (short-is : short ≡ rows_short s rec.bitmaps i.glyph.0 i.width i.height) where
-    pub rows_short : short ≡ true → 14 ≡ box_fault s rec i
+    pub rows_short_lem : short ≡ true → 14 ≡ box_fault s rec i
     unfolding box_fault
-    rows_short e = rw (← none_is, there, ← short-is, e)
+    rows_short_lem e = rw (← none_is, there, ← short-is, e)
 
     module _ (name : Named) (whole : short ≡ false) (name-is : name ≡ name_of s rec.names i.glyph.0) where
       pub named : (p : Span) → name ≡ Named.Name p → 0 ≡ box_fault s rec i

@@ -1,5 +1,5 @@
 use borrow.Author.Rules.{rules}
-use Rattle.vet.proofs.Faults.{no_bitmap_lem, rows_short, named, nameless}
+use Rattle.vet.proofs.Faults.{no_bitmap_lem, rows_short_lem, named, nameless}
 use Rattle.vet.proofs.box_fault.Statement.{statement}
 use Rattle.vet.proofs.box_fault.Tie as tie
 
@@ -10,7 +10,7 @@ box_fault_spec =
     (λ c κs. search rules)  -- no_bitmap-requires
     (λ c. search no_bitmap_lem)  -- returns
     (λ c κs. search rules)  -- rows_short-requires
-    (λ c. search rows_short)  -- returns-2
+    (λ c. search rows_short_lem)  -- returns-2
     (λ c κs. search rules)  -- name_of-requires
     (λ c. search rules)  -- enum-told
     (λ c. search rules)  -- enum-known-r
