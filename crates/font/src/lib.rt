@@ -68,7 +68,7 @@ impl<'a> Font<'a> {
     // `names::name_bytes`. Empty where `names::get_name` refuses.
     pub fn name_bytes(self, glyph: GlyphIndex) -> &'a [u8]
         ensures result_value { result.now ≡ name_bytes self.entry.bytes.now (get_name self.entry.bytes.now self.entry.rec glyph.0) }
-        ensures ref_ptr_value { result.ref_ptr ≡ moved_by self.entry.bytes.ptr (name_at self.entry.bytes.now (get_name self.entry.bytes.now self.entry.rec glyph.0)) }
+        ensures ref_ptr_value { result.ref_ptr ≡ moved_by self.entry.bytes.ref_ptr (name_at self.entry.bytes.now (get_name self.entry.bytes.now self.entry.rec glyph.0)) }
     {
         names::name_bytes(self.bytes, self.rec, glyph)
     }

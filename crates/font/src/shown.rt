@@ -17,6 +17,7 @@ use vet::{Vetted, vet};
 
 // The record of a font's bytes, read as `reading` says: refused as `load::load_pcf`, `load::load_strict` or
 // `vet::vet` refuses them.
+#[tactic(auto, unfolding(crate::specs::Shown::record_of))]
 pub fn record_of(bytes: &[u8], reading: Reading) -> Loaded
     ensures { result ≡ record_of bytes.now reading }
 {
@@ -73,6 +74,7 @@ pub fn string_through(
 // Draws a character with the font that these bytes are. Refused as `record_of` refuses the bytes, with the
 // same place, then as `Font::draw_char`; no pixel is coloured then. Each call reads the record anew: for
 // more than one, keep the record and take `char_through` or the view.
+#[tactic(auto, unfolding(crate::specs::Shown::show_char, crate::specs::Shown::show_char_leaves))]
 pub fn show_char(
     bytes: &[u8],
     reading: Reading,
@@ -101,6 +103,7 @@ pub fn show_char(
 // Draws a text with the font that these bytes are. Refused as `record_of` refuses the bytes, with the same
 // place, then as `Font::draw_string`; no pixel is coloured then. Each call reads the record anew, as
 // `show_char` does.
+#[tactic(auto, unfolding(crate::specs::Shown::show_string, crate::specs::Shown::show_string_leaves))]
 pub fn show_string(
     bytes: &[u8],
     reading: Reading,

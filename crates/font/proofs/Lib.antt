@@ -1,5 +1,0 @@
-mod Passing
-mod Recording
-mod Shapes
-mod Single
-mod Through
