@@ -16,6 +16,22 @@ use Rattle.font.proofs.char_through.Kinds as char-through-kinds
 use Rattle.font.proofs.char_through.Reads as char-through-reads
 use Rattle.font.proofs.string_through.Kinds as string-through-kinds
 use Rattle.font.proofs.string_through.Reads as string-through-reads
+use Rattle.font.proofs.open.Kinds as font-open-kinds
+use Rattle.font.proofs.open.Reads as font-open-reads
+use Rattle.font.proofs.Font.get_glyph.Kinds as font-get-glyph-kinds
+use Rattle.font.proofs.Font.get_glyph.Reads as font-get-glyph-reads
+use Rattle.font.proofs.Font.get_name.Kinds as font-get-name-kinds
+use Rattle.font.proofs.Font.get_name.Reads as font-get-name-reads
+use Rattle.font.proofs.Font.name_bytes.Kinds as font-name-bytes-kinds
+use Rattle.font.proofs.Font.name_bytes.Reads as font-name-bytes-reads
+use Rattle.font.proofs.Font.dimensions.Kinds as font-dimensions-kinds
+use Rattle.font.proofs.Font.dimensions.Reads as font-dimensions-reads
+use Rattle.font.proofs.Font.prep_char.Kinds as font-prep-char-kinds
+use Rattle.font.proofs.Font.prep_char.Reads as font-prep-char-reads
+use Rattle.font.proofs.Font.draw_char.Kinds as font-draw-char-kinds
+use Rattle.font.proofs.Font.draw_char.Reads as font-draw-char-reads
+use Rattle.font.proofs.Font.draw_string.Kinds as font-draw-string-kinds
+use Rattle.font.proofs.Font.draw_string.Reads as font-draw-string-reads
 use Rattle.font.specs.contracts.open as view-open
 use Rattle.font.specs.contracts.Font.get_glyph as view-get-glyph
 use Rattle.font.specs.contracts.Font.get_name as view-get-name
@@ -24,7 +40,7 @@ use Rattle.font.specs.contracts.Font.dimensions as view-dimensions
 use Rattle.font.specs.contracts.Font.prep_char as view-prep-char
 use Rattle.font.specs.contracts.Font.draw_char as view-draw-char
 use Rattle.font.specs.contracts.Font.draw_string as view-draw-string
-use Rattle.promises.specs.Unique.{Fixes, FixesLent, SamePart, FixesSaid}
+use Rattle.promises.specs.Unique.{Fixes, FixesPart, FixesLent, SamePart, FixesSaid}
 
 pub record_of_unique : Fixes 1 record-of-kinds.ps record-of-kinds.r record-of-reads.Post
 record_of_unique κs a r₁ r₂ x₁ x₂ p q = p ∙ sym q
@@ -41,6 +57,31 @@ show_char_unique κs a r₁ r₂ x₁ x₂ p q = (p.0 ∙ sym q.0, p.1 ∙ rw (p
 pub show_string_unique : FixesLent 3 show-string-kinds.ps show-string-kinds.r show-string-reads.Post (λ κs x. x.1.1.1.1.0.now)
 show_string_unique κs a r₁ r₂ x₁ x₂ p q = (p.0 ∙ sym q.0, p.1 ∙ rw (p.0, q.0) refl ∙ sym q.1)
 
+-- of the view, by the facts that its contracts state
+pub font_open_unique : Fixes 1 font-open-kinds.ps font-open-kinds.r font-open-reads.Post
+font_open_unique κs a r₁ r₂ x₁ x₂ p q = λ i. record { bytes = (p.0 ∙ sym q.0) i; rec = (p.1 ∙ sym q.1) i }
+
+pub font_get_glyph_unique : Fixes 1 font-get-glyph-kinds.ps font-get-glyph-kinds.r font-get-glyph-reads.Post
+font_get_glyph_unique κs a r₁ r₂ x₁ x₂ p q = p ∙ sym q
+
+pub font_get_name_unique : Fixes 1 font-get-name-kinds.ps font-get-name-kinds.r font-get-name-reads.Post
+font_get_name_unique κs a r₁ r₂ x₁ x₂ p q = p ∙ sym q
+
+pub font_name_bytes_unique : FixesPart 1 font-name-bytes-kinds.ps font-name-bytes-kinds.r font-name-bytes-reads.Post (λ κs r. r)
+font_name_bytes_unique κs a r₁ r₂ x₁ x₂ p q = (p.0 ∙ sym q.0, p.1 ∙ sym q.1)
+
+pub font_dimensions_unique : Fixes 1 font-dimensions-kinds.ps font-dimensions-kinds.r font-dimensions-reads.Post
+font_dimensions_unique κs a r₁ r₂ x₁ x₂ p q = p ∙ sym q
+
+pub font_prep_char_unique : Fixes 1 font-prep-char-kinds.ps font-prep-char-kinds.r font-prep-char-reads.Post
+font_prep_char_unique κs a r₁ r₂ x₁ x₂ p q = p ∙ sym q
+
+pub font_draw_char_unique : FixesLent 2 font-draw-char-kinds.ps font-draw-char-kinds.r font-draw-char-reads.Post (λ κs x. x.1.1.1.0.now)
+font_draw_char_unique κs a r₁ r₂ x₁ x₂ p q = (p.0 ∙ sym q.0, p.1 ∙ rw (p.0, q.0) refl ∙ sym q.1)
+
+pub font_draw_string_unique : FixesLent 3 font-draw-string-kinds.ps font-draw-string-kinds.r font-draw-string-reads.Post (λ κs x. x.1.1.1.0.now)
+font_draw_string_unique κs a r₁ r₂ x₁ x₂ p q = (p.0 ∙ sym q.0, p.1 ∙ rw (p.0, q.0) refl ∙ sym q.1)
+
 module _ {M : Type 1} (𝓤 : Ura M) where
   -- two facts that are both had give what follows from them
   from_facts : {φ ψ χ : Type 0} → (φ → ψ → χ) → ent 𝓤 (sep 𝓤 (fact 𝓤 φ) (fact 𝓤 ψ)) (fact 𝓤 χ)
@@ -54,6 +95,7 @@ module _ {M : Type 1} (𝓤 : Ura M) where
       fact_use 𝓤 (φ × φ') (via 𝓤 P (fst∗ 𝓤 P Q) (from_facts (λ x y. (x, y)))) (λ p.
       fact_use 𝓤 (ψ × ψ') (via 𝓤 Q (snd∗ 𝓤 P Q) (from_facts (λ x y. (x, y)))) (λ q. fact_i 𝓤 χ (sep 𝓤 P Q) (f p.0 p.1 q.0 q.1)))
 
+-- and as they stand in the logic, in any model
 module _ {M : Type 1} {𝓤 : Ura M} (𝓛 : Logic 𝓤) (mem : Memory → SProp 𝓤) (run : Routine → Fun 𝓤) where
   pub view_open_unique : FixesSaid 𝓤 view-open.ended (view-open.clauses 𝓛 mem run) (λ κs r₁ r₂ x₁ x₂. r₁ ≡ r₂)
   view_open_unique κs a g₁ g₂ r₁ r₂ x₁ x₂ =
