@@ -6,7 +6,7 @@ use Rattle.frames.proofs.HasFrame.{is_fit, whole_small, frame_said, frame_leaves
 use Rattle.frames.proofs.put_frame.Statement.{statement}
 use Rattle.frames.proofs.put_frame.Tie as tie
 
-returns-3 : tie.Need-returns-3
+returns-3 : tie.Need-returns-else-record_fits
 unfolding frame_into
 returns-3 c = search (tested_6 Printed.Refused)
 

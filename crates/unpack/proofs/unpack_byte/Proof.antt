@@ -4,18 +4,18 @@ use Rattle.unpack.proofs.ByteBits.{Left, all_left, none_left, bit_fits, bit_room
 use Rattle.unpack.proofs.unpack_byte.Statement.{statement}
 use Rattle.unpack.proofs.unpack_byte.Tie as tie
 
-abbrev invariant-loop : tie.invariant-loop
-invariant-loop buf₀ byte at left₀ buf left = Left byte at buf₀ buf left
+abbrev invariant-loop-left : tie.invariant-loop-left
+invariant-loop-left buf₀ byte at left₀ buf left = Left byte at buf₀ buf left
 
-abbrev decreases-loop : tie.decreases-loop
-decreases-loop buf₀ byte at left₀ buf left = left
+abbrev decreases-loop-left : tie.decreases-loop-left
+decreases-loop-left buf₀ byte at left₀ buf left = left
 
 pub unpack_byte_spec : {M : Type 1} → statement M
 unpack_byte_spec =
     tie.close
     (tie.spec
-    invariant-loop
-    decreases-loop
+    invariant-loop-left
+    decreases-loop-left
     (λ c. search all_left)  -- loop-holds
     (λ c. search blank_fits)  -- cast-buf
     (λ c. search bit_fits)  -- add-buf

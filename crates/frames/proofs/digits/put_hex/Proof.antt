@@ -8,13 +8,13 @@ use Rattle.frames.proofs.Writing.{hex_room, hex_turn, hex_whole}
 use Rattle.frames.proofs.digits.put_hex.Statement.{statement}
 use Rattle.frames.proofs.digits.put_hex.Tie as tie
 
-abbrev invariant-loop : tie.invariant-loop
-invariant-loop src out₀ at n₀ i₀ out n i = (i ≤ length src) × Put out₀ at (hex_all (take i src)) n out
+abbrev invariant-loop-i : tie.invariant-loop-i
+invariant-loop-i src out₀ at n₀ i₀ out n i = (i ≤ length src) × Put out₀ at (hex_all (take i src)) n out
 
-abbrev decreases-loop : tie.decreases-loop
-decreases-loop src out₀ at n₀ i₀ out n i = length src - i
+abbrev decreases-loop-i : tie.decreases-loop-i
+decreases-loop-i src out₀ at n₀ i₀ out n i = length src - i
 
-loop-holds : tie.Need-loop-init invariant-loop decreases-loop
+loop-holds : tie.Need-loop-i-init invariant-loop-i decreases-loop-i
 unfolding hex_all
 loop-holds c = search rules
 
@@ -22,8 +22,8 @@ pub put_hex_spec : {M : Type 1} → statement M
 put_hex_spec =
     tie.close
     (tie.spec
-    invariant-loop
-    decreases-loop
+    invariant-loop-i
+    decreases-loop-i
     loop-holds
     (λ c. search rules)  -- shared-slice-read-put-byte
     (λ c κs. search hex_room)  -- put_byte-requires

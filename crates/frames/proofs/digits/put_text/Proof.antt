@@ -7,18 +7,18 @@ use Rattle.frames.proofs.Writing.{text_room, text_next, text_whole}
 use Rattle.frames.proofs.digits.put_text.Statement.{statement}
 use Rattle.frames.proofs.digits.put_text.Tie as tie
 
-abbrev invariant-loop : tie.invariant-loop
-invariant-loop src out₀ at n₀ i₀ out n i = (i ≤ length src) × Put out₀ at (take i src) n out
+abbrev invariant-loop-i : tie.invariant-loop-i
+invariant-loop-i src out₀ at n₀ i₀ out n i = (i ≤ length src) × Put out₀ at (take i src) n out
 
-abbrev decreases-loop : tie.decreases-loop
-decreases-loop src out₀ at n₀ i₀ out n i = length src - i
+abbrev decreases-loop-i : tie.decreases-loop-i
+decreases-loop-i src out₀ at n₀ i₀ out n i = length src - i
 
 pub put_text_spec : {M : Type 1} → statement M
 put_text_spec =
     tie.close
     (tie.spec
-    invariant-loop
-    decreases-loop
+    invariant-loop-i
+    decreases-loop-i
     (λ c. search rules)  -- loop-holds
     (λ c. search rules)  -- shared-slice-read-put-one
     (λ c κs. search text_room)  -- put_one-requires

@@ -10,13 +10,13 @@ use Rattle.frames.proofs.Writing.{row_space, row_turn, row_whole}
 use Rattle.frames.proofs.glyph_rows.put_row.Statement.{statement}
 use Rattle.frames.proofs.glyph_rows.put_row.Tie as tie
 
-abbrev invariant-loop : tie.invariant-loop
-invariant-loop s b row count out₀ at n₀ j₀ out n j = (j ≤ count) × Put out₀ at (hex_all (row_from (bits_of s b) (order_of b) row 0 j)) n out
+abbrev invariant-loop-j : tie.invariant-loop-j
+invariant-loop-j s b row count out₀ at n₀ j₀ out n j = (j ≤ count) × Put out₀ at (hex_all (row_from (bits_of s b) (order_of b) row 0 j)) n out
 
-abbrev decreases-loop : tie.decreases-loop
-decreases-loop s b row count out₀ at n₀ j₀ out n j = count - j
+abbrev decreases-loop-j : tie.decreases-loop-j
+decreases-loop-j s b row count out₀ at n₀ j₀ out n j = count - j
 
-loop-holds : tie.Need-loop-init invariant-loop decreases-loop
+loop-holds : tie.Need-loop-j-init invariant-loop-j decreases-loop-j
 unfolding hex_all row_from
 loop-holds c = search rules
 
@@ -24,8 +24,8 @@ pub put_row_spec : {M : Type 1} → statement M
 put_row_spec =
     tie.close
     (tie.spec
-    invariant-loop
-    decreases-loop
+    invariant-loop-j
+    decreases-loop-j
     loop-holds
     (λ c κs. search rules)  -- row_byte-requires
     (λ c κs. search row_space)  -- put_byte-requires

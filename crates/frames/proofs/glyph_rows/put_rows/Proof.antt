@@ -9,13 +9,13 @@ use Rattle.frames.proofs.Writing.{rows_space, start_fits, next_start, rows_turn,
 use Rattle.frames.proofs.glyph_rows.put_rows.Statement.{statement}
 use Rattle.frames.proofs.glyph_rows.put_rows.Tie as tie
 
-abbrev invariant-loop : tie.invariant-loop
-invariant-loop s b i out₀ at count stride row₀ n₀ k₀ out row n k = (k ≤ i.height) × (row ≡ row₀ + k * stride) × Put out₀ at (hex_all (rows_from s b i 0 k)) n out
+abbrev invariant-loop-k : tie.invariant-loop-k
+invariant-loop-k s b i out₀ at count stride row₀ n₀ k₀ out row n k = (k ≤ i.height) × (row ≡ row₀ + k * stride) × Put out₀ at (hex_all (rows_from s b i 0 k)) n out
 
-abbrev decreases-loop : tie.decreases-loop
-decreases-loop s b i out₀ at count stride row₀ n₀ k₀ out row n k = i.height - k
+abbrev decreases-loop-k : tie.decreases-loop-k
+decreases-loop-k s b i out₀ at count stride row₀ n₀ k₀ out row n k = i.height - k
 
-loop-holds : tie.Need-loop-init invariant-loop decreases-loop
+loop-holds : tie.Need-loop-k-init invariant-loop-k decreases-loop-k
 unfolding hex_all rows_from
 loop-holds c = search rules
 
@@ -23,8 +23,8 @@ pub put_rows_spec : {M : Type 1} → statement M
 put_rows_spec =
     tie.close
     (tie.spec
-    invariant-loop
-    decreases-loop
+    invariant-loop-k
+    decreases-loop-k
     (λ c κs. search rules)  -- row_bytes-requires
     (λ c. search rules)  -- cast-count
     (λ c κs. search rules)  -- row_stride-requires

@@ -4,18 +4,18 @@ use Rattle.paint.proofs.Lines.{Dotted, no_dot, dot_more, all_dots}
 use Rattle.paint.proofs.bar.dots.Statement.{statement}
 use Rattle.paint.proofs.bar.dots.Tie as tie
 
-abbrev invariant-loop : tie.invariant-loop
-invariant-loop buf₀ at n colour b₀ buf b = Dotted buf₀ at n colour buf b
+abbrev invariant-loop-b : tie.invariant-loop-b
+invariant-loop-b buf₀ at n colour b₀ buf b = Dotted buf₀ at n colour buf b
 
-abbrev decreases-loop : tie.decreases-loop
-decreases-loop buf₀ at n colour b₀ buf b = n - b
+abbrev decreases-loop-b : tie.decreases-loop-b
+decreases-loop-b buf₀ at n colour b₀ buf b = n - b
 
 pub dots_spec : {M : Type 1} → statement M
 dots_spec =
     tie.close
     (tie.spec
-    invariant-loop
-    decreases-loop
+    invariant-loop-b
+    decreases-loop-b
     (λ c. search no_dot)  -- loop-holds
     (λ c. omega arith)  -- add-buf
     (λ c. omega arith)  -- mul-buf

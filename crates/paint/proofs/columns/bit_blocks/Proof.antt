@@ -4,18 +4,18 @@ use Rattle.paint.proofs.Bars.{Left, all_left, none_left, bit_room, bit_fits, bit
 use Rattle.paint.proofs.columns.bit_blocks.Statement.{statement}
 use Rattle.paint.proofs.columns.bit_blocks.Tie as tie
 
-abbrev invariant-loop : tie.invariant-loop
-invariant-loop buf₀ byte at stride scale colour side left₀ buf left = Left byte at stride scale colour buf₀ buf left at
+abbrev invariant-loop-left : tie.invariant-loop-left
+invariant-loop-left buf₀ byte at stride scale colour side left₀ buf left = Left byte at stride scale colour buf₀ buf left at
 
-abbrev decreases-loop : tie.decreases-loop
-decreases-loop buf₀ byte at stride scale colour side left₀ buf left = left
+abbrev decreases-loop-left : tie.decreases-loop-left
+decreases-loop-left buf₀ byte at stride scale colour side left₀ buf left = left
 
 pub bit_blocks_spec : {M : Type 1} → statement M
 bit_blocks_spec =
     tie.close
     (tie.spec
-    invariant-loop
-    decreases-loop
+    invariant-loop-left
+    decreases-loop-left
     (λ c. search all_left)  -- loop-holds
     (λ c. search blank_fits)  -- cast-bar
     (λ c. search bit_times_fits)  -- mul-bar

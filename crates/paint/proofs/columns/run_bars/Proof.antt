@@ -6,18 +6,18 @@ use Rattle.paint.proofs.Bars.{Left, all_left, none_left, run_some, run_below, ru
 use Rattle.paint.proofs.columns.run_bars.Statement.{statement}
 use Rattle.paint.proofs.columns.run_bars.Tie as tie
 
-abbrev invariant-loop : tie.invariant-loop
-invariant-loop buf₀ byte at stride scale colour side left₀ next₀ buf left next = Left byte at stride scale colour buf₀ buf left next
+abbrev invariant-loop-left : tie.invariant-loop-left
+invariant-loop-left buf₀ byte at stride scale colour side left₀ next₀ buf left next = Left byte at stride scale colour buf₀ buf left next
 
-abbrev decreases-loop : tie.decreases-loop
-decreases-loop buf₀ byte at stride scale colour side left₀ next₀ buf left next = length buf₀ - next
+abbrev decreases-loop-left : tie.decreases-loop-left
+decreases-loop-left buf₀ byte at stride scale colour side left₀ next₀ buf left next = length buf₀ - next
 
 pub run_bars_spec : {M : Type 1} → statement M
 run_bars_spec =
     tie.close
     (tie.spec
-    invariant-loop
-    decreases-loop
+    invariant-loop-left
+    decreases-loop-left
     (λ c. search all_left)  -- loop-holds
     (λ c. search blank_short)  -- cast-top
     (λ c. search blank_below)  -- shl-top
