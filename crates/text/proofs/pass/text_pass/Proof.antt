@@ -21,18 +21,18 @@ use borrow.Author.Rules.{rules}
 use Rattle.text.proofs.pass.text_pass.Statement.{statement}
 use Rattle.text.proofs.pass.text_pass.Tie as tie
 
-abbrev invariant-loop : tie.invariant-loop
-invariant-loop s rec mode other lay line len buf₀ text ink colour i₀ pen₀ dropped₀ buf i pen dropped = Walking s rec mode lay len text ink colour buf₀ i pen dropped buf
+abbrev invariant-loop-code : tie.invariant-loop-code
+invariant-loop-code s rec mode other lay line len buf₀ text ink colour i₀ pen₀ dropped₀ buf i pen dropped = Walking s rec mode lay len text ink colour buf₀ i pen dropped buf
 
-abbrev decreases-loop : tie.decreases-loop
-decreases-loop s rec mode other lay line len buf₀ text ink colour i₀ pen₀ dropped₀ buf i pen dropped = length text - i
+abbrev decreases-loop-code : tie.decreases-loop-code
+decreases-loop-code s rec mode other lay line len buf₀ text ink colour i₀ pen₀ dropped₀ buf i pen dropped = length text - i
 
 pub text_pass_spec : {M : Type 1} → statement M
 text_pass_spec =
     tie.close
     (tie.spec
-    invariant-loop
-    decreases-loop
+    invariant-loop-code
+    decreases-loop-code
     (λ c. search walking_first)  -- loop-holds
     (λ c κs. search rules)  -- step_at-requires
     (λ c. search rules)  -- enum-known-here
@@ -40,17 +40,17 @@ text_pass_spec =
     (λ c κs. search (placed_near, lent_still))  -- turn_drawn-requires
     (λ c. search rules)  -- enum-known-drawn
     (λ c. search rules)  -- cast-dropped
-    (λ c. omega (arith, (known (tie.Start invariant-loop decreases-loop) (search)).pre.1.0.is-short))  -- add-dropped
+    (λ c. omega (arith, (known (tie.Start invariant-loop-code decreases-loop-code) (search)).pre.1.0.is-short))  -- add-dropped
     (λ c κs.
-    let settled = (known (tie.Start invariant-loop decreases-loop) (search)).pre.0 in
-    let readable = (known (tie.Start invariant-loop decreases-loop) (search)).pre.1.0 in
+    let settled = (known (tie.Start invariant-loop-code decreases-loop-code) (search)).pre.0 in
+    let readable = (known (tie.Start invariant-loop-code decreases-loop-code) (search)).pre.1.0 in
     (omega (arith, settled.scale-high), search (placed_near, settled, readable)))  -- pen_after-requires
     (λ c. search step_less)  -- loop-less
-    (λ c. search (walking_next, (known (tie.Start invariant-loop decreases-loop) (search)).pre.0))  -- loop-again
+    (λ c. search (walking_next, (known (tie.Start invariant-loop-code decreases-loop-code) (search)).pre.0))  -- loop-again
     (λ c. search rules)  -- enum-known-drawn-2
     (λ c. omega arith)  -- same-length
     (λ c.
-    let entry = (known (tie.Start invariant-loop decreases-loop) (search)).pre in
+    let entry = (known (tie.Start invariant-loop-code decreases-loop-code) (search)).pre in
     (search (walking_stop, entry.0), search (inked_stop, entry.0, entry.1.1.0)))  -- returns
     (λ c. search rules)  -- enum-told
     (λ c. omega arith)  -- add-t25

@@ -5,8 +5,8 @@ use borrow.Author.Rules.{rules}
 use Rattle.why.proofs.reasons.pixel_past.Statement.{statement}
 use Rattle.why.proofs.reasons.pixel_past.Tie as tie
 
-bytes : (c : tie.After-shared-slice-known) → Octets c.before.args.s.now
-bytes c = record { below = λ i. (c.shared-slice-known.given i).fits }
+bytes : (c : tie.After-shared_slice_known-1) → Octets c.before.args.s.now
+bytes c = record { below = λ i. (c.shared_slice_known-1.given i).fits }
 
 pub pixel_past_spec : {M : Type 1} → statement M
 pixel_past_spec =
@@ -19,4 +19,4 @@ pixel_past_spec =
     (λ c. search start_fits)  -- add-from
     (λ c κs. search rules)  -- order_of-requires
     (λ c κs. search rules)  -- rows_past-requires
-    (λ c. search (pixel_searched, bytes (known tie.After-shared-slice-known (search)))))  -- returns-2
+    (λ c. search (pixel_searched, bytes (known tie.After-shared_slice_known-1 (search)))))  -- returns-2
