@@ -40,17 +40,17 @@ text_pass_spec =
     (λ c κs. search (placed_near, lent_still))  -- turn_drawn-requires
     (λ c. search rules)  -- enum-known-drawn
     (λ c. search rules)  -- cast-dropped
-    (λ c. omega (arith, (known (tie.Start invariant-loop-code decreases-loop-code) (search)).pre.1.0.is-short))  -- add-dropped
+    (λ c. omega (arith, (known (tie.Start invariant-loop-code decreases-loop-code) (search)).requires.1.0.is_short))  -- add-dropped
     (λ c κs.
-    let settled = (known (tie.Start invariant-loop-code decreases-loop-code) (search)).pre.0 in
-    let readable = (known (tie.Start invariant-loop-code decreases-loop-code) (search)).pre.1.0 in
-    (omega (arith, settled.scale-high), search (placed_near, settled, readable)))  -- pen_after-requires
+    let settled = (known (tie.Start invariant-loop-code decreases-loop-code) (search)).requires.0 in
+    let readable = (known (tie.Start invariant-loop-code decreases-loop-code) (search)).requires.1.0 in
+    (omega (arith, settled.scale_high), search (placed_near, settled, readable)))  -- pen_after-requires
     (λ c. search step_less)  -- loop-less
-    (λ c. search (walking_next, (known (tie.Start invariant-loop-code decreases-loop-code) (search)).pre.0))  -- loop-again
+    (λ c. search (walking_next, (known (tie.Start invariant-loop-code decreases-loop-code) (search)).requires.0))  -- loop-again
     (λ c. search rules)  -- enum-known-drawn-2
     (λ c. omega arith)  -- same-length
     (λ c.
-    let entry = (known (tie.Start invariant-loop-code decreases-loop-code) (search)).pre in
+    let entry = (known (tie.Start invariant-loop-code decreases-loop-code) (search)).requires in
     (search (walking_stop, entry.0), search (inked_stop, entry.0, entry.1.1.0)))  -- returns
     (λ c. search rules)  -- enum-told
     (λ c. omega arith)  -- add-t25
