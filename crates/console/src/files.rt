@@ -1,19 +1,63 @@
 // The files that the program's arguments name.
+ghost use Rattle.std.specs.Prelude.{◌≤◌, length};
 ghost use Rattle.io.specs.Counts.{IsPrefixLen};
 
 use crate::words::say;
+use std::env::{Env, FillError};
+use std::fs;
+use std::fs::Files;
+use std::io::Read;
+use std::str::from_utf8;
 
-// The file's bytes at the start of `out`. One that fills `out` may be longer than it, and is not taken.
-fn file_at(path: &[u8], out: &mut [u8]) -> usize
+// Argument i at the start of `path`, and how long it is: 0 where there is none, or it is longer than `path`.
+fn argument<R: Env>(rt: &R, i: usize, path: &mut [u8]) -> usize
+    ensures { result ≤ length path.new }
+{
+    match rt.arg(i, path) {
+        Ok(n) => n,
+        Err(_) => 0,
+    }
+}
+
+// Whether the program has an argument i, its own name being argument 0.
+pub fn has_argument<R: Env>(rt: &R, i: usize) -> bool {
+    match rt.arg(i, &mut []) {
+        Ok(_) => true,
+        Err(FillError::TooLong) => true,
+        Err(FillError::NotPresent) => false,
+    }
+}
+
+// What one read puts at the start of `out`: 0 at the file's end and where it fails.
+fn some_bytes<F: Read>(file: &mut F, out: &mut [u8]) -> usize
+    ensures { result ≤ length out.new }
+{
+    match file.read(out) {
+        Ok(n) => n,
+        Err(_) => 0,
+    }
+}
+
+// Reads until `out` is full, the file ends or a read fails.
+fn read_full<F: Read>(file: &mut F, out: &mut [u8]) -> usize
     ensures { IsPrefixLen result out.new }
 {
-    let fd = os::open_read(path);
-    if fd < 0 {
-        say(b"no file\n");
-        return 0;
+    let mut done = 0;
+    while done < out.len() {
+        let n = some_bytes(file, &mut out[done..]);
+        if n == 0 {
+            break;
+        }
+        done += n;
     }
-    let n = io::read_full(fd, out);
-    libc::close(fd);
+    done
+}
+
+// The file's bytes at the start of `out`. One that fills `out` may be longer than it, and is not taken.
+fn bytes_of<F: Read>(file: &mut F, out: &mut [u8]) -> usize
+    ensures { IsPrefixLen result out.new }
+{
+    let n = read_full(file, out);
     if n == out.len() {
         say(b"too long\n");
         return 0;
@@ -21,15 +65,28 @@ fn file_at(path: &[u8], out: &mut [u8]) -> usize
     n
 }
 
+// The same of the file at this path, if there is one.
+fn file_at<R: Files>(rt: &R, path: &[u8], out: &mut [u8]) -> usize
+    ensures { IsPrefixLen result out.new }
+{
+    if let Ok(name) = from_utf8(path) {
+        if let Ok(mut file) = fs::open(rt, name) {
+            return bytes_of(&mut file, out);
+        }
+    }
+    say(b"no file\n");
+    0
+}
+
 // Writes a line with the name that argument i is, puts that file's bytes at the start of `out`, and answers how
 // many there are. Where there is no file, or it is not shorter than `out`, a line says so and the answer is 0.
-pub fn file_of_argument(i: usize, out: &mut [u8]) -> usize
+pub fn file_of_argument<R: Env + Files>(rt: &R, i: usize, out: &mut [u8]) -> usize
     ensures { IsPrefixLen result out.new }
 {
     let mut path = io::buffer();
-    let length = os::arg(i, &mut path);
+    let length = argument(rt, i, &mut path);
     say(b"== ");
     say(&path[..length]);
     say(b"\n");
-    file_at(&path[..length], out)
+    file_at(rt, &path[..length], out)
 }

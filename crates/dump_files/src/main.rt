@@ -3,6 +3,9 @@
 
 ghost use Rattle.std.specs.Prelude.{◌≡◌, length};
 
+use std::env::Env;
+use std::fs::Files;
+
 // Room for the longest file of data/ and a byte more. Its length comes from a law, so that it need not be counted.
 fn room() -> [u8; 147460]
     ensures { 147460 ≡ length result }
@@ -10,17 +13,17 @@ fn room() -> [u8; 147460]
     [0; 147460]
 }
 
-fn named(i: usize) {
+fn named<R: Env + Files>(rt: &R, i: usize) {
     let mut text = room();
-    let n = console::file_of_argument(i, &mut text);
+    let n = console::file_of_argument(rt, i, &mut text);
     dumper::print_dump(&text[..n]);
 }
 
 // Up to 999 files: the bound lets the loop be seen to end.
-fn main() {
+fn main(rt: HostRuntime) {
     let mut i: usize = 1;
-    while i < 1000 && i < os::arg_count() {
-        named(i);
+    while i < 1000 && console::has_argument(&rt, i) {
+        named(&rt, i);
         i += 1;
     }
 }

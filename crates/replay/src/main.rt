@@ -17,6 +17,8 @@ use crate::calls::CALL;
 use crate::runs::font_calls;
 use names::{Span, part_of};
 use reads::{reach, u32_at};
+use std::env::Env;
+use std::fs::Files;
 
 const HEAD: usize = 12;
 
@@ -42,17 +44,17 @@ fn all_fonts(file: &[u8]) {
     }
 }
 
-fn named(i: usize) {
+fn named<R: Env + Files>(rt: &R, i: usize) {
     let mut file = io::large_buffer();
-    let n = console::file_of_argument(i, &mut file);
+    let n = console::file_of_argument(rt, i, &mut file);
     all_fonts(&file[..n]);
 }
 
 // Up to 999 files: the bound lets the loop be seen to end.
-fn main() {
+fn main(rt: HostRuntime) {
     let mut i: usize = 1;
-    while i < 1000 && i < os::arg_count() {
-        named(i);
+    while i < 1000 && console::has_argument(&rt, i) {
+        named(&rt, i);
         i += 1;
     }
 }

@@ -5,18 +5,18 @@ use borrow.Author.Rules.{rules}
 use Rattle.panel.proofs.blocks.print_two.Statement.{statement}
 use Rattle.panel.proofs.blocks.print_two.Tie as tie
 
-abbrev invariant-loop : tie.invariant-loop
-invariant-loop pixels row width out₀ at₀ x₀ out at x = (at ≤ length out) × (length out ≡ length out₀)
+abbrev invariant-loop-x : tie.invariant-loop-x
+invariant-loop-x pixels row width out₀ at₀ x₀ out at x = (at ≤ length out) × (length out ≡ length out₀)
 
-abbrev decreases-loop : tie.decreases-loop
-decreases-loop pixels row width out₀ at₀ x₀ out at x = width - x
+abbrev decreases-loop-x : tie.decreases-loop-x
+decreases-loop-x pixels row width out₀ at₀ x₀ out at x = width - x
 
 pub print_two_spec : {M : Type 1} → statement M
 print_two_spec =
     tie.close
     (tie.spec
-    invariant-loop
-    decreases-loop
+    invariant-loop-x
+    decreases-loop-x
     (λ c. search rules)  -- loop-holds
     (λ c. search rules)  -- add-pixel-at
     (λ c κs. search rules)  -- pixel_at-requires

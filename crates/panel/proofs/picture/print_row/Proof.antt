@@ -5,18 +5,18 @@ use borrow.Author.Rules.{rules}
 use Rattle.panel.proofs.picture.print_row.Statement.{statement}
 use Rattle.panel.proofs.picture.print_row.Tie as tie
 
-abbrev invariant-loop : tie.invariant-loop
-invariant-loop pixels row width out₀ at₀ x₀ out at x = (at ≤ length out) × (length out ≡ length out₀)
+abbrev invariant-loop-x : tie.invariant-loop-x
+invariant-loop-x pixels row width out₀ at₀ x₀ out at x = (at ≤ length out) × (length out ≡ length out₀)
 
-abbrev decreases-loop : tie.decreases-loop
-decreases-loop pixels row width out₀ at₀ x₀ out at x = width - x
+abbrev decreases-loop-x : tie.decreases-loop-x
+decreases-loop-x pixels row width out₀ at₀ x₀ out at x = width - x
 
 pub print_row_spec : {M : Type 1} → statement M
 print_row_spec =
     tie.close
     (tie.spec
-    invariant-loop
-    decreases-loop
+    invariant-loop-x
+    decreases-loop-x
     (λ c. search rules)  -- loop-holds
     (λ c κs. search rules)  -- with_room-requires
     (λ c. search rules)  -- add-pixel-at

@@ -91,18 +91,18 @@ module _ (s : List ℕ) (c : EncodingData) (mode : Mode) (text : List ℕ) where
       by : AddsUp s c mode text i n cs → n ≡ default_count s c mode cs
       by (rest, left, sum) = absurd (left_bad text i rest r left (sym here-is ∙ read))
 
-abbrev invariant-loop : tie.invariant-loop
-invariant-loop text font codes mode n₀ i₀ n i = Counted font codes mode text i n
+abbrev invariant-loop-code : tie.invariant-loop-code
+invariant-loop-code text font codes mode n₀ i₀ n i = Counted font codes mode text i n
 
-abbrev decreases-loop : tie.decreases-loop
-decreases-loop text font codes mode n₀ i₀ n i = length text - i
+abbrev decreases-loop-code : tie.decreases-loop-code
+decreases-loop-code text font codes mode n₀ i₀ n i = length text - i
 
 pub default_count_spec : {M : Type 1} → statement M
 default_count_spec =
     tie.close
     (tie.spec
-    invariant-loop
-    decreases-loop
+    invariant-loop-code
+    decreases-loop-code
     (λ c. search counted-first)  -- loop-holds
     (λ c κs. search rules)  -- step_at-requires
     (λ c. search rules)  -- enum-known-here

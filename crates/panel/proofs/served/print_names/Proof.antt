@@ -19,18 +19,18 @@ module _ (text : List ℕ) (i : ℕ) (here : Step) (code : CharCode) (next : ℕ
   ends-within : next ≤ length text
   ends-within = (step_within text i code next (sym here-is ∙ read)).1
 
-abbrev invariant-loop : tie.invariant-loop
-invariant-loop text font codes mode shown i₀ i = Unit {0}
+abbrev invariant-loop-code : tie.invariant-loop-code
+invariant-loop-code text font codes mode shown i₀ i = Unit {0}
 
-abbrev decreases-loop : tie.decreases-loop
-decreases-loop text font codes mode shown i₀ i = length text - i
+abbrev decreases-loop-code : tie.decreases-loop-code
+decreases-loop-code text font codes mode shown i₀ i = length text - i
 
 pub print_names_spec : {M : Type 1} → statement M
 print_names_spec =
     tie.close
     (tie.spec
-    invariant-loop
-    decreases-loop
+    invariant-loop-code
+    decreases-loop-code
     (λ c. tt)  -- loop-holds
     (λ c κs. search rules)  -- step_at-requires
     (λ c. search rules)  -- enum-known-here

@@ -5,18 +5,18 @@ use borrow.Author.Rules.{rules}
 use Rattle.reasons.proofs.lines.text_told.Statement.{statement}
 use Rattle.reasons.proofs.lines.text_told.Tie as tie
 
-abbrev invariant-loop : tie.invariant-loop
-invariant-loop r text font rec whole₀ i₀ whole i = Unit {0}
+abbrev invariant-loop-code : tie.invariant-loop-code
+invariant-loop-code r text font rec whole₀ i₀ whole i = Unit {0}
 
-abbrev decreases-loop : tie.decreases-loop
-decreases-loop r text font rec whole₀ i₀ whole i = length text - i
+abbrev decreases-loop-code : tie.decreases-loop-code
+decreases-loop-code r text font rec whole₀ i₀ whole i = length text - i
 
 pub text_told_spec : {M : Type 1} → statement M
 text_told_spec =
     tie.close
     (tie.spec
-    invariant-loop
-    decreases-loop
+    invariant-loop-code
+    decreases-loop-code
     (λ c. tt)  -- loop-holds
     (λ c κs. search rules)  -- step_at-requires
     (λ c. search rules)  -- enum-known-here
