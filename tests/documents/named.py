@@ -37,7 +37,7 @@ QUOTES = ("Document 01", "000")  # columns whose words are others'
 # columns in which each cell names something, or else points to where it is named
 NAMING = ("Function", "Answer", "Its definition", "Here", "Edit", "Refused in")
 ELSEWHERE = re.compile(r"\w+ case|below|the .* under \".*\"")
-FOLDERS = "crates|tests|docs|include|bindings|examples|meter-font|bench"
+FOLDERS = "crates|tests|docs|include|bindings|examples|meter-font|bench|tools|processors"
 PATH = re.compile(rf"(?<![\w/.`])(?:{FOLDERS})/[\w./*-]*\w")
 
 JOINED = re.compile(r"[A-Za-z0-9]+(?:[-_][A-Za-z0-9]+)+")
