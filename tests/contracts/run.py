@@ -1,9 +1,11 @@
 #!/usr/bin/env python3
 """Every public function of the libraries has a contract on its answer and asks nothing of its caller,
 and the files crates/promises/proofs/Unique*.antt say of each that its contract determines the answer. That the
-contracts and the theorems hold is for the prover; this sees that none is missing. A function that
-answers nothing, and is lent nothing that it could change, has nothing to determine; what a function
-read from outside the program no contract can determine."""
+contracts and the theorems hold is for the prover; this sees that none is missing, and that the static library
+exports functions with the very contracts of the library's. A function that answers nothing, and is lent nothing
+that it could change, has nothing to determine; what a function read from outside the program no contract can
+determine."""
+import collections
 import glob
 import os
 import re
@@ -12,17 +14,17 @@ import sys
 sys.path.insert(0, os.path.dirname(os.path.dirname(os.path.abspath(__file__))))
 
 from common import ROOT  # noqa: E402
-from contracts.functions import public_functions  # noqa: E402
+from contracts.functions import exported_functions, public_functions  # noqa: E402
 
 # Functions that answer what they read from outside: they have an `ensures`, and no theorem.
 READING = {("console", "file_of_argument")}
 
 
-# what a theorem on a function of the view says of two results
+# what a theorem on a function of the view says of two results, where it speaks of the contract in the logic alone
 VIEW = {
     "answer": r"\(λ κs r₁ r₂ x₁ x₂\. r₁ ≡ r₂\)",
     "part": r"\(λ κs r₁ r₂ x₁ x₂\. SamePart r₁ r₂\)",
-    "buffer": r"\(λ κs r₁ r₂ x₁ x₂\. \(r₁ ≡ r₂\) × \(now \(x₁ .*\) ≡ now \(x₂ .*\)\)\)",
+    "buffer": r"\(λ κs r₁ r₂ x₁ x₂\. \(r₁ ≡ r₂\) × \((x)₁((?:\.[01])*\.now) ≡ \1₂\2\)\)",
 }
 
 
@@ -36,32 +38,58 @@ def determines(clauses):
 def fixed():
     """(crate, name), and what is fixed, "answer", "part" or "buffer" with the answer, of each theorem of those
     files: one about that function's own contract, and no other"""
+    found = collections.defaultdict(set)
     for path in sorted(glob.glob(os.path.join(ROOT, "crates", "promises", "proofs", "Unique*.antt"))):
         with open(path, encoding="utf-8") as f:
-            yield from fixed_by(f.read())
+            for function, what in fixed_by(f.read()):
+                found[function].add(what)
+    return found
+
+
+def stated(text, name, indent=""):
+    """what a theorem of this name states, in one line"""
+    found = re.search(rf"^{indent}pub {re.escape(name)} : (.*(?:\n{indent} +.*)*)", text, re.M)
+    return re.sub(r"\s+", " ", found[1]).strip() if found else ""
 
 
 def fixed_by(text):
-    for crate, name, short in re.findall(r"^use Rattle·(\w+)\.proofs\.(\w+)\.Reads as (\S+)-reads$", text, re.M):
-        kinds = f"use Rattle·{crate}.proofs.{name}.Kinds as {short}-kinds"
+    for crate, name, short in re.findall(r"^use Rattle\.(\w+)\.proofs\.(?:Font\.)?(\w+)\.Reads as (\S+)-reads$", text, re.M):
+        kinds = rf"^use Rattle\.{crate}\.proofs\.(?:Font\.)?{name}\.Kinds as {re.escape(short)}-kinds$"
         s = re.escape(short)
-        theorem = rf"^pub {s}-unique : Fixes(Part|Lent|) \d+ {s}-kinds\.ps {s}-kinds\.r {s}-reads\.Post\b *(.*)$"
-        stated = re.search(theorem, text, re.M)
-        if kinds in text.split("\n") and stated:
-            whole = {"": "", "Part": r"\(λ κs r\. r\)", "Lent": r"\(λ κs x\. now \(x.*\)"}[stated[1]]
-            if re.fullmatch(whole, stated[2]):
-                yield (crate, name), {"": "answer", "Part": "part", "Lent": "buffer"}[stated[1]]
-    for crate, name, short in re.findall(r"^use Rattle·(\w+)\.proofs\.(?:Font\.)?(\w+) as (view-\S+)$", text, re.M):
+        theorem = rf"Fixes(Part|Lent|) \d+ {s}-kinds\.ps {s}-kinds\.r {s}-reads\.Post\b *(.*)"
+        says = re.fullmatch(theorem, stated(text, short.replace("-", "_") + "_unique"))
+        if says and re.search(kinds, text, re.M):
+            whole = {"": "", "Part": r"\(λ κs r\. r\)", "Lent": r"\(λ κs x\. x(?:\.[01])*\.now\)"}[says[1]]
+            if re.fullmatch(whole, says[2]):
+                yield (crate, name), {"": "answer", "Part": "part", "Lent": "buffer"}[says[1]]
+    contracts = r"^use Rattle\.(\w+)\.specs\.contracts\.(?:Font\.)?(\w+) as (view-\S+)$"
+    for crate, name, short in re.findall(contracts, text, re.M):
         s = re.escape(short)
-        theorem = rf"^  pub {s}-unique : FixesSaid 𝓤 {s}\.ended \({s}\.clauses 𝓤 H A mem run\) (.*)$"
-        stated = re.search(theorem, text, re.M)
+        theorem = rf"FixesSaid 𝓤 {s}\.ended \({s}\.clauses 𝓛 mem run\) (.*)"
+        says = re.fullmatch(theorem, stated(text, short.replace("-", "_") + "_unique", "  "))
         for fixed_part, form in VIEW.items():
-            if stated and re.fullmatch(form, stated[1]):
+            if says and re.fullmatch(form, says[1]):
                 yield (crate, name), fixed_part
 
 
+def passing():
+    """what is wrong with the functions that the static library exports: each has the name, the parameters, the answer
+    and the clauses of a function of the library, so that what is proved of that one is said of it too"""
+    of_library = collections.defaultdict(set)
+    for crate, name, clauses in public_functions():
+        of_library[name].add(clauses)
+    exported = list(exported_functions())
+    for crate, name, clauses in exported:
+        if clauses not in of_library[name]:
+            yield f"{crate}::{name} does not have the signature and the clauses of a library's function {name}"
+    exporting = {name for _, name, _ in exported}
+    for crate, name, _ in public_functions():
+        if exported and name.startswith("thalluskin_") and name not in exporting:
+            yield f"{crate}::{name} is not exported"
+
+
 def main():
-    theorems, found, bad = dict(fixed()), set(), []
+    theorems, found, bad = fixed(), set(), list(passing())
     for crate, name, clauses in public_functions():
         found.add((crate, name))
         if re.search(r"\brequires\b", clauses):
@@ -74,8 +102,8 @@ def main():
             continue
         if (crate, name) not in theorems:
             bad.append(f"{crate}::{name} has no theorem that its contract determines its answer")
-        elif theorems[crate, name] != determines(clauses):
-            has, must = theorems[crate, name], determines(clauses)
+        elif theorems[crate, name] != {determines(clauses)}:
+            has, must = " and its ".join(sorted(theorems[crate, name])), determines(clauses)
             bad.append(f"{crate}::{name} has a theorem on its {has}, not on its {must}")
     lost = sorted(set(theorems) - found)
     bad += [f"{crate}::{name} has a theorem, but is no public function" for crate, name in lost]

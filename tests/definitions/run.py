@@ -90,17 +90,19 @@ def openings():
             with open(os.path.join(folder, file), encoding="utf-8") as f:
                 found = re.findall(r"^unfoldable pub (\S+) :", f.read(), re.M)
             if found:
-                uses.append(f"use Rattle·{crate}.specs.{file[:-5]}.{{{', '.join(found)}}}")
+                uses.append(f"use Rattle.{crate}.specs.{file[:-5]}.{{{', '.join(found)}}}")
                 names += found
     return uses, names
 
 
 def types_only(source):
     """a crate's types, and the types of other crates that they name"""
-    uses = re.findall(r"^use \w+::[A-Z]\w*;\n", source, re.M)
-    types = re.findall(r"^(?:#\[.*\]\n)?pub (?:struct|enum) [^;{]*(?:;|\{(?:.*\n)*?\})\n", source, re.M)
+    types = re.findall(r"^(?:#\[.*\]\n)*pub (?:struct|enum) [^;{]*(?:;|\{(?:.*\n)*?\})\n", source, re.M)
     named = "".join(types)
-    return "".join(u for u in uses if re.search(r"\b" + u[:-2].split("::")[1] + r"\b", named)) + "\n" + named
+    uses = re.findall(r"^use (\w+)::(?:(\w+)|\{([\w\s,]+)\});$", source, re.M)
+    uses = [(crate, name) for crate, one, many in uses for name in re.findall(r"\w+", one or many)]
+    return "".join(f"use {crate}::{name};\n" for crate, name in sorted(uses)
+                   if name[0].isupper() and re.search(rf"\b{name}\b", named)) + "\n" + named
 
 
 def copy_definitions(folder):
@@ -158,8 +160,8 @@ def computed(cases, fonts):
             lines.append(f"computed{i}: {' '.join(libraries())}\n")
         with open(os.path.join(folder, "crates.txt"), "w", encoding="utf-8") as f:
             f.writelines(lines)
-        run = subprocess.run(["rt", "check"], cwd=folder, stdout=subprocess.PIPE, stderr=subprocess.STDOUT, text=True,
-                             env=dict(os.environ, RT_CUT="0"))
+        run = subprocess.run(["rt", "all", "check", "--jobs", os.environ.get("RT_JOBS", str(CRATES))], cwd=folder,
+                             stdout=subprocess.PIPE, stderr=subprocess.STDOUT, text=True)
     return run.returncode, run.stdout
 
 

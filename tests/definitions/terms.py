@@ -75,10 +75,10 @@ def term(font, rec, c):
         "draw_char": "char {f} {r} {m} {code} {len} {start} {stride} {scale}",
         "draw_string": "string {f} {r} {m} {t} {len} {lay}",
         "unpack_glyph": "unpack {f} {r} {m} {box} {len} {start} {stride}",
-        "fill_bytes": "fillBytes {t} {len}",
-        "put_frame": "putFrame {f} {r} {code} {len}", "put_refused": "putRefused {number} {len}",
+        "fill_bytes": "fill_bytes {t} {len}",
+        "put_frame": "put_frame {f} {r} {code} {len}", "put_refused": "put_refused {number} {len}",
         "plain": "fields plain", "is_known": "bits (is_known {number} ∷ [])", "mode_of": "fields (mode_of {number})",
-        "name_bytes": "nameOfGlyph {f} {r} {g}", "part_of": "part {f} {span}",
+        "name_bytes": "name_of_glyph {f} {r} {g}", "part_of": "part {f} {span}",
     }
     names = dict(c, f=font, r=rec, t=text, m=mode(c))
     if "info" in c:
@@ -149,7 +149,7 @@ def module(batch, fonts, uses, opened):
             out.append(f"{rec} : Record\n{rec} = {record(handed)}\n")
         left = term(f, rec, c)
         if handed is not None and "rec" not in c:
-            left = f"onFont (loaded {f}) (λ rec. {left})"
+            left = f"on_font (loaded {f}) (λ rec. {left})"
         right = answer_term(fonts[c["font"]] if "font" in c else b"", handed, c)
         out.append(f"case{k} : {left} ≡ {right}\nunfolding {' '.join(OWN + opened + local)}\ncase{k} = refl\n")
     return "\n".join(out)

@@ -26,7 +26,7 @@ def files(pattern):
 @functools.lru_cache(None)
 def crates():
     """what each crate of crates.txt stands on"""
-    return {name: on.split() for name, on in re.findall(r"^(\w+):(.*)$", read("crates.txt"), re.M)}
+    return {name: on.split() for name, on in re.findall(r"^(\w+)(?: staticlib)?:(.*)$", read("crates.txt"), re.M)}
 
 
 def folders(name):
@@ -35,6 +35,11 @@ def folders(name):
 
 def is_program(crate):
     return exists(f"crates/{crate}/src/main.rt")
+
+
+def reaches_outside(crate):
+    """whether a crate reads or writes what is outside the program: files, arguments, input, output"""
+    return "io" in crates()[crate] or bool(re.search(r"\bstd::(?:env|fs|io)\b|\bHostRuntime\b", source(crate)))
 
 
 @functools.lru_cache(None)
@@ -71,6 +76,18 @@ def functions(crate="*"):
 @functools.lru_cache(None)
 def types(crate="*"):
     return set(re.findall(r"^ *(?:pub )?(?:struct|enum) (\w+)", source(crate), re.M))
+
+
+@functools.lru_cache(None)
+def other_names():
+    """fields of structs, of sources and of definitions; modules; edits without their crate; words of the C header"""
+    of_definitions = "".join(read(file) for file in glob.glob(path("crates", "*", "specs", "*.antt")))
+    return {
+        "fields": set(re.findall(r"^ +(?:pub )?(\w+) ?: ", source("*") + of_definitions, re.M)),
+        "modules": set(re.findall(r"^(?:pub )?mod (\w+);", source("*"), re.M)),
+        "edits": {edit.split("/")[1] for edit in edits()},
+        "words of C": {"size_t", *re.findall(r"\w+", read("include/thalluskin.h"))},
+    }
 
 
 @functools.lru_cache(None)

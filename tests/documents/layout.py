@@ -6,7 +6,7 @@ import re
 
 from documents import code, pages
 
-MOST, MOST_IN_TABLES = 120, 200
+MOST, MOST_IN_TABLES = 120, 210
 WRITTEN = re.compile(r"<!-- (end of )?\w+ -->")  # what stands between two such lines a program writes
 
 
@@ -42,7 +42,7 @@ def columns(page):
 def cited():
     """each number by which a file cites a decision: the file, the line and the number"""
     for folder, folders, files in os.walk(code.ROOT):
-        folders[:] = [f for f in folders if f not in (".git", "target", "data", "__pycache__")]
+        folders[:] = [f for f in folders if f not in (".git", "out", "target", "data", "__pycache__")]
         for file in files:
             if re.search(r"\.(md|rt|antt|edit|py|rs|c|h|txt)$|^(run|test|thalluskin)$", file):
                 name = os.path.relpath(os.path.join(folder, file), code.ROOT)

@@ -3,8 +3,8 @@
 Names belong to what stands before them in the same cell or paragraph: after `crate/File: name` a further name is of
 that file too, after `crate::name` of that crate. A name that fits no kind is a fault.
 
-Of some other pages only the names with a crate or a folder and those of laws, which have hyphens, are looked at, since
-the rest are words of many kinds."""
+Of some other pages only the names with a crate or a folder and those of several words, joined by `_` or `-`, are looked
+at: definitions, laws, functions, fields. The rest are words of many kinds."""
 import collections
 import re
 
@@ -37,10 +37,10 @@ QUOTES = ("Document 01", "000")  # columns whose words are others'
 # columns in which each cell names something, or else points to where it is named
 NAMING = ("Function", "Answer", "Its definition", "Here", "Edit", "Refused in")
 ELSEWHERE = re.compile(r"\w+ case|below|the .* under \".*\"")
-FOLDERS = "crates|tests|docs|include|bindings|examples|meter-font|bench"
+FOLDERS = "crates|tests|docs|include|bindings|examples|meter-font|bench|tools|processors"
 PATH = re.compile(rf"(?<![\w/.`])(?:{FOLDERS})/[\w./*-]*\w")
 
-LAW = re.compile(r"[A-Za-z0-9]+(?:-[A-Za-z0-9]+)+")
+JOINED = re.compile(r"[A-Za-z0-9]+(?:[-_][A-Za-z0-9]+)+")
 
 # where a name without a crate is looked for: what it would be, the names there, and the crate
 Near = collections.namedtuple("Near", "kind names crate")
@@ -100,8 +100,8 @@ class Reader:
             self.edits[name] += piece.column == "Edit"
         elif PATH.fullmatch(name) or self.every and "/" in name:
             self.found(line, name, "files", code.exists(name))
-        elif not self.every and LAW.fullmatch(name):
-            self.found(line, name, "theorems", name in code.all_declared("proofs"))
+        elif not self.every and JOINED.fullmatch(name):
+            self.anywhere(line, name)
         elif not self.every:
             self.counts["words not looked up"] += 1
         elif piece.column == "Refused in":
@@ -131,21 +131,29 @@ class Reader:
         self.found(line, name, "theorems" if law else "functions", there)
 
     def bare(self, line, name, near):
+        """a name alone: of what stands before it, of that one's crate, or, as a definition and its theorems often stand
+        together, a theorem of another file"""
+        if near and name in near.names:
+            self.found(line, name, near.kind, True)
+        elif near and name in code.functions(near.crate):
+            self.found(line, name, "functions", True)
+        elif near and near.kind != "theorems" and JOINED.fullmatch(name) and name in code.all_declared("proofs"):
+            self.found(line, name, "theorems", True)
+        elif near and name not in code.crates():
+            self.fault(line, f"{name} is not where the page has it")
+        else:
+            self.anywhere(line, name)
+
+    def anywhere(self, line, name):
         kinds = {
             "definitions": code.all_declared("specs"),
             "theorems": code.all_declared("proofs"),
             "functions": code.functions(),
             "crates": code.crates(),
+            **({} if self.every else code.other_names()),
         }
-        if near and name in near.names:
-            self.found(line, name, near.kind, True)
-        elif near and "_" in name:
-            self.found(line, f"{near.crate}::{name}", "functions", name in code.functions(near.crate))
-        elif near and (near.kind == "theorems" or "-" not in name) and name not in code.crates():
-            self.fault(line, f"{name} is not where the page has it")
-        else:
-            kind = next((kind for kind, names in kinds.items() if name in names), None)
-            self.found(line, name, kind or "names", kind)
+        kind = next((kind for kind, names in kinds.items() if name in names), None)
+        self.found(line, name, kind or "names", kind)
 
 
 def stands(reader):
@@ -158,8 +166,8 @@ def stands(reader):
     believed = [p.text for p in pages.pieces(reader.page) if p.section == "What a reader has to believe"]
     told = {name for text in believed if "The programs (" in text for _, name in pages.names(text)}
     run = "\n".join(p.text for p in pages.pieces(reader.page) if p.section == "Run")
-    for crate, on in code.crates().items():
-        if "libc" in on and code.functions(crate) and crate not in told:
+    for crate in code.crates():
+        if code.reaches_outside(crate) and crate not in told:
             yield f"{reader.page}: {crate} is not among the programs"
         if code.is_program(crate) and not re.search(rf"\bcrates/{crate}\b", run):
             yield f'{reader.page}: crates/{crate} does not stand under "Run"'

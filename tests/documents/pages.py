@@ -19,7 +19,9 @@ Piece = collections.namedtuple("Piece", "line section column first text")
 
 
 def all_pages():
-    return ["README.md"] + sorted(os.path.relpath(p, code.ROOT) for p in glob.glob(code.path("docs", "*.md")))
+    """README.md and those of docs/, but for the page on the port, which quotes what stood before it"""
+    found = (os.path.relpath(p, code.ROOT) for p in glob.glob(code.path("docs", "*.md")))
+    return ["README.md"] + sorted(page for page in found if not os.path.basename(page).startswith("PORT"))
 
 
 def lines(page):

@@ -135,21 +135,21 @@ def takers():
 
 
 def theorems():
-    """the theorems on a call's numbers, NAME-refusals: NAME, its list, and whether 6 is said to be the record's test"""
+    """the theorems on a call's numbers, NAME_refusals: NAME, its list, and whether 6 is said to be the record's test"""
     files = sorted(glob.glob(code.path("crates/*/proofs/*Refusals.antt")))
     lists = [code.read(path) for path in files + sorted(glob.glob(code.path("crates/*/specs/*.antt")))]
-    shared = dict(re.findall(r"^(of[A-Z]\w+) = ((?:\w+ ∷|\w+ \+\+).*)", "\n".join(lists), re.M))
+    shared = dict(re.findall(r"^(of_\w+) = ((?:\w+ ∷|\w+ \+\+).*)", "\n".join(lists), re.M))
 
     def numbers(told):
-        words = re.findall(r"\d+|of\w+", told)
+        words = re.findall(r"\d+|of_\w+", told)
         return [n for w in words for n in ([int(w)] if w.isdigit() else numbers(shared[w]))]
 
     for path in files:
-        stated = r"^ *pub (\S+)-refusals :(.*?)^ *(?:unfolding|\1-refusals)\b"
+        stated = r"^ *pub (\S+)_refusals :(.*?)^ *(?:unfolding|\1_refusals)\b"
         for m in re.finditer(stated, code.read(path), re.M | re.S):
             told = re.search(r"(NumberedBy|Refusals s rec) (\w+|\((?:[^()]|\([^()]*\))*\))", m[2])
-            assert told, f"{path}: {m[1]}-refusals has a form that is not known here"
-            yield m[1].replace("-", "_"), (numbers(told[2]), told[1] != "NumberedBy")
+            assert told, f"{path}: {m[1]}_refusals has a form that is not known here"
+            yield m[1], (numbers(told[2]), told[1] != "NumberedBy")
 
 
 def proved(known):
