@@ -1,8 +1,8 @@
 """Every access to memory of a module, and whether it means the same where a pointer has 4 bytes as where it has 8.
 
-A function's own memory is what it allocates and what its caller hands it the address of: answers, records, slices,
-which are a pointer and a length. Lent memory is what the pointer of a slice points to: a font's bytes, a text, a
-buffer. The module is refused unless
+A function's own memory is what it allocates and what its caller hands it the address of: answers, records. Lent memory
+is what the pointer of a slice points to: a font's bytes, a text, a buffer, a constant array of bytes. A slice, a pointer
+and a length, is handed on as these two. The module is refused unless
 
   - own memory is reached by constant offsets, within what was allocated or what the header says a struct has, at the
     alignment that the access asks for;
@@ -11,9 +11,11 @@ buffer. The module is refused unless
   - a place of own memory that holds a pointer has 8 bytes to itself, under every name that it has, and is only ever
     read, written and copied as a whole pointer; what is allocated for one pointer is used for nothing else; no struct
     of a caller's holds one, and none is put into memory that a caller hands in;
+  - what is set to 0 as a whole is all of what was allocated, and was not for one pointer alone;
   - no address of own memory is stored, answered or made of a number, but for an array of bytes or of pixels, which is
-    lent memory from then on, neither handed on nor copied;
+    lent memory from then on, neither handed on by that address nor copied;
   - what is reached by a pointer is what a caller lends, or such an array;
+  - a function's parameter is an address of own memory in every call, or of lent memory in every call;
   - what is copied as a whole is own memory, of a constant size;
   - nothing is written through a pointer to a struct that a caller lends, but the answer;
   - no function calls itself, directly or through others.
@@ -32,7 +34,7 @@ READ_BYTES, WRITE_BYTES, WRITE_PIXELS = ("load", "i8", 1), ("store", "i8", 1), (
 
 # an address of own memory: what was allocated or handed in, by its function and name, and the offset from there
 Place = collections.namedtuple("Place", "region offset")
-# an address of lent memory, by the place that its pointer was read from, or by the parameter that it is
+# an address of lent memory, by the place that its pointer was read from, or by the parameter or constant that it is
 Lent = collections.namedtuple("Lent", "source")
 Touch = collections.namedtuple("Touch", "offset type align")
 
@@ -45,15 +47,16 @@ class Accesses:
         self.functions, self.structs, self.answers, self.slices = functions, structs, answers, slices
         self.touches = collections.defaultdict(list)
         self.copies, self.handed = [], []  # two places and a size; a parameter and the place that it is
+        self.lent = []  # a parameter and the lent memory that it is
+        self.constants = {}  # how constant arrays are reached
         self.allocated, self.slots = {}, set()
         self.stored, self.arrays = [], []  # what is lent or an array, and where its address is stored
         self.written, self.reached = set(), collections.Counter()  # the ways in which lent memory is reached
-        self.calls = collections.defaultdict(set)
-        for function in functions.values():
-            self.walk(function)
+        for name in self.callers_first():
+            self.walk(functions[name])
+        self.parameters_kinds()
         self.elsewhere = {place.region for *places, _ in self.copies for place in places}
         self.elsewhere |= {place.region for _, place in self.handed}
-        self.recursion()
         self.lent_arrays()
         self.extents()
         self.alignments()
@@ -65,10 +68,11 @@ class Accesses:
     def walk(self, function):
         """what its instructions do, each by its form; `known` are the addresses that its pointers hold"""
         self.inside, known = function.name, {}
+        lent = {*self.slices, *(parameter for parameter, _ in self.lent)}
         for kind, name in function.parameters:
             if kind == "ptr":
                 region = (function.name, name)
-                known[name] = Lent(region) if region in self.slices else Place(region, 0)
+                known[name] = Lent(region) if region in lent else Place(region, 0)
         for form, parts, line in function.instructions:
             try:
                 getattr(self, form)(known, parts)
@@ -106,6 +110,19 @@ class Accesses:
                 raise Failed("lent memory is taken for a pointer")
             known[parts["to"]] = Lent(at)
 
+    def pair(self, known, parts):
+        at, align = known[parts["at"]], int(parts["align"])
+        if isinstance(at, Lent):
+            raise Failed("lent memory is taken for two numbers")
+        offset = 0
+        for kind in parts["type"].strip("{ }").split(", "):
+            offset += -offset % WIDTH[kind]
+            self.touches[at.region].append(Touch(at.offset + offset, kind, min(align, WIDTH[kind])))
+            offset += WIDTH[kind]
+
+    def null(self, known, parts):
+        pass
+
     def store(self, known, parts):
         at = known[parts["at"]]
         self.touch("store", at, parts)
@@ -114,10 +131,26 @@ class Accesses:
                 raise Failed("a pointer is stored in lent memory")
             if at.region not in self.allocated:
                 raise Failed("a pointer is stored in memory of a caller's")
-            value = known[parts["value"]]
+            value = self.constant(parts["value"]) or known[parts["value"]]
             (self.stored if isinstance(value, Lent) else self.arrays).append((value, at))
         if isinstance(at, Place):
             self.written.add(at.region)
+
+    def constant(self, name):
+        """a constant array of bytes, which is read; None of another name"""
+        if not name.startswith("@"):
+            return None
+        region = ("the module", name)
+        self.constants[region] = READ_BYTES
+        return Lent(region)
+
+    def zero(self, known, parts):
+        at = known[parts["at"]]
+        if isinstance(at, Lent):
+            raise Failed("lent memory is set to 0 as a whole")
+        if at.offset or at.region in self.slots or self.allocated.get(at.region, (0,))[0] != int(parts["size"]):
+            raise Failed("what is set to 0 is not all that was allocated, or is so for a pointer")
+        self.written.add(at.region)
 
     def copy(self, known, parts):
         at, source = known[parts["at"]], known[parts["source"]]
@@ -131,12 +164,10 @@ class Accesses:
         kinds = [kind for kind, _ in called.parameters]
         if parts["type"] != called.answer or [kind for kind, _ in given] != kinds:
             raise Failed("a call does not have the function's parameters and answer")
-        self.calls[self.inside].add(called.name)
         for (kind, name), (_, value) in zip(called.parameters, given):
             if kind == "ptr":
-                if isinstance(known[value], Lent):
-                    raise Failed("an address of lent memory is handed on by itself")
-                self.handed.append(((called.name, name), known[value]))
+                is_lent = isinstance(known[value], Lent)
+                (self.lent if is_lent else self.handed).append(((called.name, name), known[value]))
 
     def plain(self, known, parts):
         pass
@@ -147,15 +178,25 @@ class Accesses:
         """size and alignment of a region that is not a parameter of an internal function"""
         return self.structs.get(region) or self.allocated.get(region)
 
-    def recursion(self):
-        """no function calls itself"""
-        rest = {name: set(called) for name, called in self.calls.items()}
-        while rest:
-            ends = [name for name, called in rest.items() if not called & set(rest)]
-            if not ends:
-                raise Failed("%s calls itself" % ", ".join(sorted(rest)))
-            for name in ends:
-                del rest[name]
+    def callers_first(self):
+        """the functions' names, each after those of its callers; no function calls itself"""
+        calls = {name: {parts["name"] for form, parts, _ in function.instructions if form == "call"}
+                 for name, function in self.functions.items()}
+        order = []
+        while calls:
+            called = set().union(*calls.values())
+            firsts = [name for name in calls if name not in called]
+            if not firsts:
+                raise Failed("%s calls itself" % ", ".join(sorted(calls)))
+            order += firsts
+            for name in firsts:
+                del calls[name]
+        return order
+
+    def parameters_kinds(self):
+        """a parameter is own memory or lent memory in every call"""
+        for function, name in {parameter for parameter, _ in self.lent} & {parameter for parameter, _ in self.handed}:
+            raise Failed("%s of %s is an address of own memory and of lent memory" % (name, function))
 
     def lent_arrays(self):
         """what is lent though it is own memory is an array of bytes or of pixels, allocated where it is lent"""
@@ -241,15 +282,18 @@ class Accesses:
         """what one pointer may point to is reached in one way, and what a caller lends as the header says"""
         for value, at in self.stored:
             same.join(value.source, at)
+        for parameter, value in self.lent:
+            same.join(parameter, value.source)
         for (region, _), at in self.arrays:
             same.join(region, at)
-        lent = {same.of(one) for one in [*self.slices, *(region for (region, _), _ in self.arrays)]}
+        stated = {**self.slices, **self.constants}
+        lent = {same.of(one) for one in [*stated, *(region for (region, _), _ in self.arrays)]}
         found = collections.defaultdict(set)
         for source, way in self.reached:
             if same.of(source) not in lent:
                 raise Failed("memory that was never lent is reached by the pointer at %s" % (source,))
             found[same.of(source)].add(way)
-        for parameter, way in self.slices.items():
+        for parameter, way in stated.items():
             if found[same.of(parameter)] - {way}:
                 raise Failed("%s of %s is lent for %s, and reached by %s" % (
                     parameter[1], parameter[0], way, sorted(found[same.of(parameter)])))

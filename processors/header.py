@@ -73,3 +73,10 @@ def offsets():
 def alignment(kind):
     """of a number or a struct: that of its widest number"""
     return NUMBERS.get(kind) or max(alignment(of) for of, _ in structs()[kind])
+
+
+def numbers(kind):
+    """offset and width of each number of a number or a struct"""
+    if kind in NUMBERS:
+        return [(0, NUMBERS[kind])]
+    return [(offsets()[kind, field] + at, width) for of, field in structs()[kind] for at, width in numbers(of)]

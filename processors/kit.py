@@ -1,22 +1,26 @@
-"""The Rattle kit: its tools, and what it makes of the library. One run of `rt staticlib` proves the library and makes
-both the archive for x86-64 and the LLVM module that the archive is compiled from, which is taken where the kit hands it
-to its clang."""
+"""The Rattle kit: its tools, and what it makes of the library. One run of `rt lib` proves the library and makes both the
+archive for x86-64 and the LLVM module that the archive is compiled from, which is taken where the kit hands it to its
+clang."""
 import fcntl
 import os
-import platform
 import shlex
 import shutil
 import subprocess
 import sys
+import tempfile
 import time
 
 ROOT = os.path.dirname(os.path.dirname(os.path.abspath(__file__)))
 TARGET = os.path.join(ROOT, "target")
+CRATE = os.path.join(ROOT, "crates", "thalluskin_c")
+MADE = os.path.join(CRATE, "out", "libthalluskin_c.a")
 ARCHIVE = os.path.join(TARGET, "staticlib", "libthalluskin.a")
 MODULE = os.path.join(TARGET, "module", "module.bc")
 KIT_OF_MODULE = os.path.join(TARGET, "module", "KIT-ID")
 HEADER = os.path.join(ROOT, "include", "thalluskin.h")
-COMPILER = ["on", platform.machine(), "toolchain", "bin", "clang"]
+COMPILER = ["toolchain", "bin", "clang"]
+COMMAND = ["rt", "rtlib.py"]  # it takes the folder above its own, links followed, for the kit
+ANY_X86 = ["--cpu", "x86-64"]  # else the archive is for processors with more than SSE2
 
 
 class Failed(Exception):
@@ -49,7 +53,7 @@ def home():
     rt = shutil.which("rt")
     if not rt:
         raise Failed("the Rattle kit's command 'rt' is not on the PATH")
-    return os.environ.get("RATTLE_HOME", os.path.dirname(os.path.dirname(os.path.realpath(rt))))
+    return os.path.dirname(os.path.dirname(os.path.realpath(rt)))
 
 
 def tool(name):
@@ -82,6 +86,13 @@ def files(folder):
     return [os.path.join(inside, name) for inside, _, names in os.walk(folder) for name in [*names, ""]]
 
 
+def sources():
+    """what the library is made of"""
+    crates = os.path.join(ROOT, "crates")
+    folders = [os.path.join(crates, name, part) for name in os.listdir(crates) for part in ("src", "specs", "proofs")]
+    return [os.path.join(ROOT, "crates.txt"), *(file for folder in folders for file in files(folder))]
+
+
 def is_newer(file, *sources):
     """whether there is one that no source is newer than"""
     return os.path.exists(file) and os.path.getmtime(file) > max(map(os.path.getmtime, sources))
@@ -97,9 +108,8 @@ def identity(file):
 
 def is_made():
     """whether there are an archive and a module of the sources as they are, made by the kit at hand"""
-    sources = files(os.path.join(ROOT, "crates"))
     by = identity(os.path.join(home(), "KIT-ID"))
-    return all(is_newer(made, *sources) for made in (ARCHIVE, MODULE)) and by == identity(KIT_OF_MODULE)
+    return all(is_newer(made, *sources()) for made in (ARCHIVE, MODULE)) and by == identity(KIT_OF_MODULE)
 
 
 def archive():
@@ -125,32 +135,40 @@ def make():
 
 def make_anew(folder):
     shutil.rmtree(folder, ignore_errors=True)
+    os.makedirs(folder)
+    os.makedirs(os.path.dirname(ARCHIVE), exist_ok=True)
     begun = time.time()  # what is changed while the kit proves is newer than what it makes
-    run("rt", "staticlib", "thalluskin", cwd=ROOT, env={**os.environ, "RATTLE_HOME": keeping(folder)})
-    for made in (ARCHIVE, MODULE):
+    with tempfile.TemporaryDirectory() as kit:  # outside the repository, where the kit wants no links
+        run(keeping(os.path.join(kit, "kit")), "lib", *ANY_X86, cwd=CRATE)
+    for made in (MADE, MODULE):
         if not os.path.exists(made):
             raise Failed("the kit did not make %s" % os.path.relpath(made, ROOT))
+    shutil.copyfile(MADE, ARCHIVE)
+    for made in (ARCHIVE, MODULE):
         os.utime(made, (begun, begun))
     with open(KIT_OF_MODULE, "w") as f:
         f.write(identity(os.path.join(home(), "KIT-ID")))
 
 
-def keeping(folder):
-    """a kit whose clang keeps a copy of the module that it is handed, and else is the kit at hand"""
-    there, made, clang = home(), os.path.join(folder, "kit"), tool("clang")
-    for k, but in enumerate(COMPILER):
+def keeping(made):
+    """the command rt of a kit whose clang keeps a copy of the module that it is handed, and else is the kit at hand"""
+    there, clang = home(), tool("clang")
+    for k, but in enumerate([[COMPILER[0], "bin"], COMPILER[1:2], COMPILER[2:]]):
         links(os.path.join(there, *COMPILER[:k]), os.path.join(made, *COMPILER[:k]), but)
+    links(os.path.join(there, "bin"), os.path.join(made, "bin"), COMMAND)
+    for name in COMMAND:
+        shutil.copy(os.path.join(there, "bin", name), os.path.join(made, "bin", name))
     keeps = os.path.join(made, *COMPILER)
     with open(keeps, "w") as f:
         f.write('#!/bin/sh\nfor word; do case $word in *.bc) cp "$word" %s ;; esac; done\nexec %s "$@"\n' % (
             shlex.quote(MODULE), shlex.quote(clang)))
     os.chmod(keeps, 0o755)
-    return made
+    return os.path.join(made, "bin", COMMAND[0])
 
 
 def links(there, here, but):
-    """links in a folder to all that another one has, but for one name"""
+    """links in a folder to all that another one has, but for some names"""
     os.makedirs(here)
     for name in os.listdir(there):
-        if name != but:
+        if name not in but:
             os.symlink(os.path.join(there, name), os.path.join(here, name))

@@ -5,37 +5,44 @@ import re
 from processors.kit import Failed
 
 NUMBER = r"i1|i8|i16|i32|i64"
+PAIR = r"\{ (?:%s), (?:%s) \}" % (NUMBER, NUMBER)
 TYPE = NUMBER + "|ptr"
 VALUE = r"%\w+|-?\d+|true|false"
 INTERNAL = r'@"\w+(?:::\w+)+"'  # no name of a function that a compiler calls by itself
-MEMMOVE = "@llvm.memmove.p0.p0.i64"
+STATIC = r"@static\.\d+"  # a constant array of bytes
+MEMMOVE, MEMSET = "@llvm.memmove.p0.p0.i64", "@llvm.memset.p0.i64"
 
 # the forms of instructions, by what they do to memory; those of `plain` touch none and hold no pointer
 FORMS = {
     "alloca": r"(?P<to>%\w+) = alloca (?:\[(?P<bytes>\d+) x i8\]|(?P<of>{t})), align (?P<align>\d+)",
     "step": r"(?P<to>%\w+) = getelementptr (?:inbounds nuw )?i8, ptr (?P<at>%\w+), i64 (?P<by>{v})",
     "load": r"(?P<to>%\w+) = load (?P<type>{t}), ptr (?P<at>%\w+), align (?P<align>\d+)(?:, !(?:range|noundef) !\d+)*",
-    "store": r"store (?P<type>{t}) (?P<value>{v}), ptr (?P<at>%\w+), align (?P<align>\d+)",
+    "pair": r"(?P<to>%\w+) = load (?P<type>{p}), ptr (?P<at>%\w+), align (?P<align>\d+)",
+    "store": r"store (?P<type>{t}) (?P<value>{v}|{s}), ptr (?P<at>%\w+), align (?P<align>\d+)",
+    "zero": r"call void {z}\(ptr (?P<at>%\w+), i8 0, i64 (?P<size>\d+), i1 false\)",
     "copy": r"call void {m}\(ptr (?P<at>%\w+), ptr (?P<source>%\w+), i64 (?P<size>\d+), i1 false\)",
-    "call": r"(?:(?P<to>%\w+) = )?call (?P<type>void|{n}) (?P<name>{i})\((?P<given>(?:{a}(?:, {a})*)?)\)",
+    "call": r"(?:(?P<to>%\w+) = )?call (?P<type>void|{n}|{p}) (?P<name>{i})\((?P<given>(?:{a}(?:, {a})*)?)\)",
     "plain": "|".join([
         r"%\w+ = (?:add|sub|mul|udiv|urem|and|or|xor|shl|lshr)(?: nuw| nsw| exact| disjoint)* (?:{n}) (?:{v}), (?:{v})",
         r"%\w+ = icmp \w+ (?:{n}) (?:{v}), (?:{v})",
+        r"%\w+ = extractvalue {p} %\w+, [01]",
         r"%\w+ = (?:zext|sext|trunc)(?: nuw| nsw| nneg)* (?:{n}) (?:{v}) to (?:{n})",
         r"%\w+ = call i8 @llvm\.ctlz\.i8\(i8 (?:{v}), i1 (?:true|false)\)",
         r"call void @llvm\.trap\(\)", r"unreachable",
         r"br label %[\w.]+", r"br i1 (?:{v}), label %[\w.]+, label %[\w.]+",
         r"switch (?:{n}) (?:{v}), label %[\w.]+ \[", r"(?:{n}) -?\d+, label %[\w.]+", r"\]",
-        r"ret void", r"ret (?:{n}) (?:{v})",
+        r"ret void", r"ret (?:{n}) (?:{v})", r"ret {p} %\w+",
     ]),
+    "null": r"%\w+ = icmp eq ptr %\w+, null",  # in an exported function alone
 }
 ARGUMENT = "(?:%s) (?:%s)" % (TYPE, VALUE)
-FORMS = {name: re.compile(form.format(n=NUMBER, t=TYPE, v=VALUE, i=INTERNAL, a=ARGUMENT, m=re.escape(MEMMOVE)))
+FORMS = {name: re.compile(form.format(n=NUMBER, p=PAIR, t=TYPE, v=VALUE, s=STATIC, i=INTERNAL, a=ARGUMENT,
+                                       m=re.escape(MEMMOVE), z=re.escape(MEMSET)))
          for name, form in FORMS.items()}
 LABEL = re.compile(r"[\w.]+:(?: +; (?:preds = [%\w., ]+|No predecessors!))?")
-HEAD = re.compile(r"define (?P<internal>internal )?(?:noundef )?(?:zeroext )?(?P<answer>void|%s) "
-                  r"(?P<name>%s|@thalluskin_\w+)\((?P<parameters>[^()]*)\) #0 \{" % (NUMBER, INTERNAL))
-PARAMETER = re.compile(r"(?P<type>%s) noundef(?: zeroext)?(?P<align> align \d+)? (?P<name>%%\w+)" % TYPE)
+HEAD = re.compile(r"define (?P<internal>internal )?(?:noundef )?(?:zeroext )?(?P<answer>void|%s|%s) "
+                  r"(?P<name>%s|@thalluskin_\w+)\((?P<parameters>[^()]*)\) #0 \{" % (NUMBER, PAIR, INTERNAL))
+PARAMETER = re.compile(r"(?P<type>%s)(?: noundef)?(?: zeroext)?(?P<align> align \d+)? (?P<name>%%\w+)" % TYPE)
 OUTSIDE = re.compile("|".join([
     r"", r"; ModuleID = '[^']*'", r"; Function Attrs: [\w():, ]+", r'source_filename = "rattle"',
     r'target datalayout = "e-m:e-p270:32:32-p271:32:32-p272:64:64-i64:64-i128:128-f80:128-n8:16:32:64-S128"',
@@ -43,8 +50,10 @@ OUTSIDE = re.compile("|".join([
     # what is declared is LLVM's own
     r"declare void %s\(ptr writeonly captures\(none\), ptr readonly captures\(none\), i64, i1 immarg\) #\d"
     % re.escape(MEMMOVE),
+    r"declare void %s\(ptr writeonly captures\(none\), i8, i64, i1 immarg\) #\d" % re.escape(MEMSET),
+    r'%s = private unnamed_addr constant \[\d+ x i8\] c"[ !#-~]*", align 1' % STATIC,
     r"declare void @llvm\.trap\(\) #\d", r"declare i8 @llvm\.ctlz\.i8\(i8, i1 immarg\) #\d",
-    r'attributes #0 = \{ nounwind "probe-stack"="inline-asm" "target-cpu"="x86-64" \}',
+    r'attributes #0 = \{ nounwind "probe-stack"="inline-asm" "stack-probe-size"="3072" "target-cpu"="x86-64" \}',
     r"attributes #[1-9] = \{ (?:cold |nocallback |nofree |noreturn |nosync |nounwind |speculatable |willreturn )+"
     r"memory\([\w: ]+\) \}",
     r"!llvm\.ident = !\{!\d+\}", r'!\d+ = !\{!"[^"]*"\}', r"!\d+ = !\{i8 \d+, i8 \d+\}", r"!\d+ = !\{\}"]))
@@ -66,7 +75,7 @@ class Function:
     def take(self, line):
         for form, expression in FORMS.items():
             found = expression.fullmatch(line)
-            if found:
+            if found and not (form == "null" and self.internal):
                 self.instructions.append((form, found.groupdict(), line))
                 return
         raise Failed("in %s this is not understood: %s" % (self.name, line))

@@ -5,7 +5,7 @@
   - the alignment that every call of an internal function gives its parameters is stated;
   - the layout and the name of the processor;
   - what functions are optimised for, in the place of x86-64's name and of probes for a stack that grows by pages;
-  - the width of a copy's size, where pointers have 32 bits;
+  - the width of the size of what is copied or set to 0, where pointers have 32 bits;
   - how the version, a number of 32 bits, is answered, and what an object file says of itself, where the processor's
     table has it.
 
@@ -17,10 +17,12 @@ from processors import header
 from processors.accesses import Accesses
 from processors.exports import exported
 from processors.kit import Failed, run, tool
-from processors.module import MEMMOVE, functions
+from processors.module import MEMMOVE, MEMSET, functions
 
 LAYOUT = re.compile(r"^target datalayout = .*\ntarget triple = .*$", re.M)
-ATTRIBUTES = re.compile(r'^attributes #0 = \{ nounwind "probe-stack"="inline-asm" "target-cpu"="x86-64" \}$', re.M)
+ATTRIBUTES = re.compile(r'^attributes #0 = \{ nounwind "probe-stack"="inline-asm" "stack-probe-size"="3072" '
+                        r'"target-cpu"="x86-64" \}$', re.M)
+CRATE = "thalluskin_c"  # whose functions are exported
 VERSION = re.compile(r"^define noundef i32 @%s\(\)" % header.VERSION, re.M)
 LEVELS = {"-O2": "", "-Os": " optsize", "-Oz": " minsize optsize"}
 
@@ -50,7 +52,7 @@ def lending(text):
     slices are reached"""
     structs, slices = {}, {}
     for answer, name, given in header.prototypes():
-        called = re.findall(r'^define internal void (@"[\w:]+::%s%s")\(' % (header.BY_VALUE, name), text, re.M)
+        called = re.findall(r'^define internal void (@"%s::%s%s")\(' % (CRATE, header.BY_VALUE, name), text, re.M)
         if len(called) != 1:
             raise Failed("the kit's module has %d functions under %s%s" % (len(called), header.BY_VALUE, name))
         kits = exported(answer, name, given, called[0], lends=False)[0]
@@ -97,6 +99,7 @@ def retargeted(text, target, level):
     text = one(ATTRIBUTES, "attributes #0 = { nounwind%s }" % LEVELS[level], text)
     text = one(VERSION, "define noundef %si32 @%s()" % (target.extended, header.VERSION), text)
     if re.search(r"-p:32:32\b", now):
-        narrow = MEMMOVE.replace("i64", "i32")
-        text = re.sub(re.escape(MEMMOVE) + r"\((ptr .*?, ptr .*?), i64\b", narrow + r"(\1, i32", text)
+        for kits in (MEMMOVE, MEMSET):
+            narrow = kits.replace("i64", "i32")
+            text = re.sub(re.escape(kits) + r"\((ptr .*?, (?:ptr|i8)\b.*?), i64\b", narrow + r"(\1, i32", text)
     return text + 'module asm "%s"\n' % target.asm if target.asm else text, accesses
