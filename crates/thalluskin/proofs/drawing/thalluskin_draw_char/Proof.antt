@@ -14,4 +14,4 @@ thalluskin_draw_char_spec =
     (λ c κs. search rules)  -- draw_char-requires
     (λ c κs. search rules)  -- char_answer-requires
     (λ c. search rules)  -- same-length
-    (λ c. search (called char_answer, ← (known tie.After-mode_of (search)).Mode-of.ensures, ← (known tie.After-stride_of (search)).stride_of.ensures, ← (known tie.After-draw_char (search)).draw_char.ensures.0)))  -- returns
+    (λ c. search (called char_answer, ← (known tie.After-mode_of (search)).mode_of.ensures, ← (known tie.After-stride_of (search)).stride_of.ensures, ← (known tie.After-draw_char (search)).draw_char.ensures.0)))  -- returns

@@ -14,4 +14,4 @@ thalluskin_draw_glyph_spec =
     (λ c κs. search rules)  -- draw_glyph-requires
     (λ c κs. search rules)  -- rows_answer-requires
     (λ c. search rules)  -- same-length
-    (λ c. search (called rows_answer, ← (known tie.After-mode_of (search)).Mode-of.ensures, ← (known tie.After-stride_of (search)).stride_of.ensures, ← (known tie.After-draw_glyph (search)).draw_glyph.ensures.0)))  -- returns
+    (λ c. search (called rows_answer, ← (known tie.After-mode_of (search)).mode_of.ensures, ← (known tie.After-stride_of (search)).stride_of.ensures, ← (known tie.After-draw_glyph (search)).draw_glyph.ensures.0)))  -- returns

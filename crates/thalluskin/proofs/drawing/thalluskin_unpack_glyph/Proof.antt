@@ -14,4 +14,4 @@ thalluskin_unpack_glyph_spec =
     (λ c κs. search rules)  -- unpack_glyph-requires
     (λ c κs. search rules)  -- unpack_answer-requires
     (λ c. search rules)  -- same-length
-    (λ c. search (called unpack_answer, ← (known tie.After-mode_of (search)).Mode-of.ensures, ← (known tie.After-stride_of (search)).stride_of.ensures, ← (known tie.After-unpack_glyph (search)).unpack_glyph.ensures.0)))  -- returns
+    (λ c. search (called unpack_answer, ← (known tie.After-mode_of (search)).mode_of.ensures, ← (known tie.After-stride_of (search)).stride_of.ensures, ← (known tie.After-unpack_glyph (search)).unpack_glyph.ensures.0)))  -- returns

@@ -19,5 +19,5 @@ thalluskin_prep_char_spec =
     (λ c κs. search rules)  -- info_answer-requires
     (λ c. search rules)  -- enum-known-permit
     (λ c κs. search rules)  -- info_answer-requires-2
-    (λ c. search (guard_given info_answer CharPrepared.Refused, ← (known tie.After-mode_of (search)).Mode-of.ensures))  -- returns
+    (λ c. search (guard_given info_answer CharPrepared.Refused, ← (known tie.After-mode_of (search)).mode_of.ensures))  -- returns
     (λ c. search (guard_refused info_answer CharPrepared.Refused)))  -- returns-2

@@ -15,4 +15,4 @@ thalluskin_accel_spec =
     (λ c κs. search rules)  -- blank-requires
     (λ c. search rules)  -- cast-t9
     (λ c. search (call_matched accel_answer))  -- returns
-    (λ c. search (call_matched accel_answer, (known tie.After-blank (search)).blank.ensures)))  -- returns-2
+    (λ c. search (call_matched accel_answer, (known tie.After-blank-none (search)).blank-none.ensures)))  -- returns-2

@@ -19,5 +19,5 @@ thalluskin_glyph_spec =
     (λ c κs. search rules)  -- glyph_answer-requires
     (λ c. search rules)  -- enum-known-permit
     (λ c κs. search rules)  -- glyph_answer-requires-2
-    (λ c. search (guard_given glyph_answer Served.Refused, ← (known tie.After-mode_of (search)).Mode-of.ensures))  -- returns
+    (λ c. search (guard_given glyph_answer Served.Refused, ← (known tie.After-mode_of (search)).mode_of.ensures))  -- returns
     (λ c. search (guard_refused glyph_answer Served.Refused)))  -- returns-2

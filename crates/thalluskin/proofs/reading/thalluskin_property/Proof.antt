@@ -17,4 +17,4 @@ thalluskin_property_spec =
     (λ c κs. search rules)  -- no_span-requires
     (λ c κs. search rules)  -- no_span-requires-2
     (λ c. search (call_matched property_answer))  -- returns
-    (λ c. search (call_matched property_answer, c.no_span2.ensures, (known tie.After-no_span (search)).no_span.ensures)))  -- returns-2
+    (λ c. search (call_matched property_answer, c.no_span-in-Refused.ensures, (known tie.After-no_span (search)).no_span.ensures)))  -- returns-2

@@ -13,4 +13,4 @@ thalluskin_why_spec =
     (λ c κs. search rules)  -- stride_of-requires
     (λ c κs. search rules)  -- why-requires
     (λ c κs. search rules)  -- why_answer-requires
-    (λ c. search (called why_answer, ← (known tie.After-mode_of (search)).Mode-of.ensures, ← (known tie.After-stride_of (search)).stride_of.ensures)))  -- returns
+    (λ c. search (called why_answer, ← (known tie.After-mode_of (search)).mode_of.ensures, ← (known tie.After-stride_of (search)).stride_of.ensures)))  -- returns

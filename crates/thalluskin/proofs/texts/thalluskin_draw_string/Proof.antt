@@ -15,4 +15,4 @@ thalluskin_draw_string_spec =
     (λ c κs. search rules)  -- draw_string-requires
     (λ c κs. search rules)  -- text_answer-requires
     (λ c. search rules)  -- same-length
-    (λ c. search (called text_answer, ← (known tie.After-mode_of (search)).Mode-of.ensures, ← (known tie.After-wrap_of (search)).wrap_of.ensures, ← (known tie.After-stride_of (search)).stride_of.ensures, ← (known tie.After-draw_string (search)).draw_string.ensures.0)))  -- returns
+    (λ c. search (called text_answer, ← (known tie.After-mode_of (search)).mode_of.ensures, ← (known tie.After-wrap_of (search)).wrap_of.ensures, ← (known tie.After-stride_of (search)).stride_of.ensures, ← (known tie.After-draw_string (search)).draw_string.ensures.0)))  -- returns

@@ -14,4 +14,4 @@ thalluskin_text_check_spec =
     (λ c κs. search rules)  -- stride_of-requires
     (λ c κs. search rules)  -- text_check-requires
     (λ c κs. search rules)  -- text_answer-requires
-    (λ c. search (called text_answer, ← (known tie.After-mode_of (search)).Mode-of.ensures, ← (known tie.After-wrap_of (search)).wrap_of.ensures, ← (known tie.After-stride_of (search)).stride_of.ensures)))  -- returns
+    (λ c. search (called text_answer, ← (known tie.After-mode_of (search)).mode_of.ensures, ← (known tie.After-wrap_of (search)).wrap_of.ensures, ← (known tie.After-stride_of (search)).stride_of.ensures)))  -- returns
