@@ -25,6 +25,6 @@ pub returns : goal.returns
 returns c =
     let bytes : Octets c.args.s.now = record { below = λ i. (c.type_inv.s i).fits } in
     elim c.if-corner_past.branch [
-      then-corner_past+else-rows_past w ↦ search (shown_searched, rows_found, bytes)
-    | else-corner_past w ↦ search (shown_fitting, all_there)
+      | then-corner_past+else-rows_past w ↦ search (shown_searched, rows_found, bytes)
+      | else-corner_past w ↦ search (shown_fitting, all_there)
     ]

@@ -18,8 +18,8 @@ passed : (c : Joined-corner_past) →
 passed c =
     let octets : Octets c.args.s.now = record { below = λ i. (c.type_inv.s i).fits } in
     elim c.if-corner_past.branch [
-      then-corner_past+else-rows_past w ↦ search (drawing_searched, rows_found, octets)
-    | else-corner_past w ↦ search (drawing_fits, rows_found)
+      | then-corner_past+else-rows_past w ↦ search (drawing_searched, rows_found, octets)
+      | else-corner_past w ↦ search (drawing_fits, rows_found)
     ]
 
 pub returns-then-unreadable : goal.returns-then-unreadable
