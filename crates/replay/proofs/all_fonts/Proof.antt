@@ -4,18 +4,18 @@ use borrow.Author.Rules.{rules}
 use Rattle.replay.proofs.all_fonts.Statement.{statement}
 use Rattle.replay.proofs.all_fonts.Tie as tie
 
-abbrev invariant-loop : tie.invariant-loop
-invariant-loop file at₀ at = Unit {0}
+abbrev invariant-loop-at : tie.invariant-loop-at
+invariant-loop-at file at₀ at = Unit {0}
 
-abbrev decreases-loop : tie.decreases-loop
-decreases-loop file at₀ at = length file - at
+abbrev decreases-loop-at : tie.decreases-loop-at
+decreases-loop-at file at₀ at = length file - at
 
 pub all_fonts_spec : {M : Type 1} → statement M
 all_fonts_spec =
     tie.close
     (tie.spec
-    invariant-loop
-    decreases-loop
+    invariant-loop-at
+    decreases-loop-at
     (λ c. search rules)  -- loop-holds
     (λ c κs. search rules)  -- u32_at-requires
     (λ c. search rules)  -- cast-font

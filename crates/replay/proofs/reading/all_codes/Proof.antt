@@ -3,18 +3,18 @@ use borrow.Author.Rules.{rules}
 use Rattle.replay.proofs.reading.all_codes.Statement.{statement}
 use Rattle.replay.proofs.reading.all_codes.Tie as tie
 
-abbrev invariant-loop : tie.invariant-loop
-invariant-loop font rec code₀ code = Unit {0}
+abbrev invariant-loop-code : tie.invariant-loop-code
+invariant-loop-code font rec code₀ code = Unit {0}
 
-abbrev decreases-loop : tie.decreases-loop
-decreases-loop font rec code₀ code = 65536 - code
+abbrev decreases-loop-code : tie.decreases-loop-code
+decreases-loop-code font rec code₀ code = 65536 - code
 
 pub all_codes_spec : {M : Type 1} → statement M
 all_codes_spec =
     tie.close
     (tie.spec
-    invariant-loop
-    decreases-loop
+    invariant-loop-code
+    decreases-loop-code
     (λ c. search rules)  -- loop-holds
     (λ c κs. search rules)  -- with_glyph-requires
     (λ c. search rules)  -- add-code

@@ -3,18 +3,18 @@ use borrow.Author.Rules.{rules}
 use Rattle.replay.proofs.runs.all_calls.Statement.{statement}
 use Rattle.replay.proofs.runs.all_calls.Tie as tie
 
-abbrev invariant-loop : tie.invariant-loop
-invariant-loop font rec lent calls count now₀ k₀ now k = Unit {0}
+abbrev invariant-loop-k : tie.invariant-loop-k
+invariant-loop-k font rec lent calls count now₀ k₀ now k = Unit {0}
 
-abbrev decreases-loop : tie.decreases-loop
-decreases-loop font rec lent calls count now₀ k₀ now k = count - k
+abbrev decreases-loop-k : tie.decreases-loop-k
+decreases-loop-k font rec lent calls count now₀ k₀ now k = count - k
 
 pub all_calls_spec : {M : Type 1} → statement M
 all_calls_spec =
     tie.close
     (tie.spec
-    invariant-loop
-    decreases-loop
+    invariant-loop-k
+    decreases-loop-k
     (λ c. search rules)  -- loop-holds
     (λ c. search rules)  -- cast-start
     (λ c. search rules)  -- mul-start
