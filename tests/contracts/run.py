@@ -55,7 +55,8 @@ def stated(text, name, indent=""):
 
 
 def fixed_by(text):
-    for crate, name, short in re.findall(r"^use Rattle\.(\w+)\.proofs\.(?:Font\.)?(\w+)\.Reads as (\S+)-reads$", text, re.M):
+    reads = r"^use Rattle\.(\w+)\.proofs\.(?:Font\.)?(\w+)\.Reads as (\S+)-reads$"
+    for crate, name, short in re.findall(reads, text, re.M):
         kinds = rf"^use Rattle\.{crate}\.proofs\.(?:Font\.)?{name}\.Kinds as {re.escape(short)}-kinds$"
         s = re.escape(short)
         theorem = rf"Fixes(Part|Lent|) \d+ {s}-kinds\.ps {s}-kinds\.r {s}-reads\.Post\b *(.*)"
