@@ -3,7 +3,7 @@
  *
  *     cc program.c -I include target/staticlib/libthalluskin.a
  *
- * `rt staticlib thalluskin` makes the archive for x86-64 Linux, which needs SSE registers, memcpy and memset, and
+ * `./thalluskin build x86-64` makes the archive for x86-64 Linux, which needs SSE registers, memcpy and memset, and
  * nothing else; `./thalluskin build` makes it for Cortex-M, RISC-V, aarch64 and WebAssembly, and says what the linker
  * has to add there. It holds no state, allocates nothing and keeps no pointer, so that any number of threads may call
  * it. One header serves every processor that has its bytes in little-endian order and puts a uint64_t at a multiple of
@@ -421,8 +421,8 @@ typedef struct {
     uint64_t next;
 } thk_step_answer;
 
-/* ---- The archive's own functions, which the ones below call. On x86-64 a struct goes by value, and the archive of `rt
- * staticlib` has these alone. Elsewhere, and where THK_LENT is defined, the answer goes where the first argument
+/* ---- The archive's own functions, which the ones below call. On x86-64 a struct goes by value, and the archive of the
+ * kit has these alone. Elsewhere, and where THK_LENT is defined, the answer goes where the first argument
  * points, and a struct is lent by a pointer: how a struct goes by value is each processor's own affair. Programs have
  * no need of them. */
 #if defined(__BYTE_ORDER__) && __BYTE_ORDER__ != __ORDER_LITTLE_ENDIAN__

@@ -79,7 +79,7 @@ fn main() {
     println!("cargo:rerun-if-changed={}", archive.display());
     if !archive.is_file() {
         let how = match known {
-            Some((_, "staticlib")) if !is_given => String::from("`rt staticlib thalluskin` makes it"),
+            Some((_, "staticlib")) if !is_given => String::from("`./thalluskin build x86-64` makes it"),
             Some((_, folder)) if !is_given => format!("`./thalluskin build {}` makes it", folder),
             _ => String::from("THALLUSKIN_LIB has to name the folder of one"),
         };

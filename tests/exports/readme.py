@@ -21,7 +21,7 @@ def compiles_rust(source):
 
 def commands(block, archive):
     """how many succeed, with the archive in the place of the one for x86-64, which was made before"""
-    lines = [line for line in block.split("\n") if line.strip() and not line.startswith("rt ")]
+    lines = [line for line in block.split("\n") if line.strip() and not line.startswith("./thalluskin build ")]
     for line in lines:
         must("of the README: " + line, "sh", "-c", line.replace(
             "target/staticlib/libthalluskin.a", os.path.relpath(archive, ROOT)), cwd=ROOT)

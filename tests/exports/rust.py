@@ -89,7 +89,7 @@ def build_script(folder):
     arm = of("thumbv7em-none-eabi", "arm", OS="none", POINTER_WIDTH="32")
     tries = [
         ({"CARGO_MANIFEST_DIR": CRATE}, None), (named, None), ({**arm, **named}, None),
-        ({}, "staticlib/libthalluskin.a is not there; `rt staticlib thalluskin` makes it"),
+        ({}, "staticlib/libthalluskin.a is not there; `./thalluskin build x86-64` makes it"),
         ({**of("armv7-unknown-linux-gnueabi", "arm"), **named}, None),
         ({"THALLUSKIN_LIB": os.path.join("target", "staticlib")}, "absolute path"),
         ({"THALLUSKIN_LIB": ""}, "absolute path"), ({"THALLUSKIN_LIB": folder}, "is not there; THALLUSKIN_LIB"),
