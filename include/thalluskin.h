@@ -23,10 +23,10 @@
  *   - the stack has room. On x86-64 a call takes at most, in bytes, with its return address and what it stores below
  *     the stack's pointer, as Linux programs may, and without memcpy and memset:
  *
- *         thk_vet 3,700; thk_load 3,200; thk_load_strict 3,200
- *         thk_draw_string 1,400; thk_text_check 1,400; thk_why 1,000
- *         thk_draw_char 900; thk_draw_bitmap 900; thk_draw_glyph 800; thk_unpack_glyph 400
- *         thk_prep_char 700; thk_metrics 300; thk_property 200; each of the others 100
+ *         thk_vet 3,200; thk_load 2,100; thk_load_strict 2,100
+ *         thk_draw_string 1,300; thk_text_check 1,300; thk_why 700
+ *         thk_draw_char 800; thk_draw_bitmap 800; thk_draw_glyph 700; thk_unpack_glyph 400
+ *         thk_prep_char 600; thk_metrics 300; thk_property 300; each of the others 100
  *
  *     and its caller some 500 for the answer and for copies of the record and of a page's numbers. The page
  *     that `./thalluskin build` leaves beside an archive for another processor has its figures.

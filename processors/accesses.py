@@ -54,7 +54,6 @@ class Accesses:
         self.written, self.reached = set(), collections.Counter()  # the ways in which lent memory is reached
         for name in self.callers_first():
             self.walk(functions[name])
-        self.parameters_kinds()
         self.elsewhere = {place.region for *places, _ in self.copies for place in places}
         self.elsewhere |= {place.region for _, place in self.handed}
         self.lent_arrays()
@@ -68,11 +67,13 @@ class Accesses:
     def walk(self, function):
         """what its instructions do, each by its form; `known` are the addresses that its pointers hold"""
         self.inside, known = function.name, {}
-        lent = {*self.slices, *(parameter for parameter, _ in self.lent)}
+        lent, own = ({parameter for parameter, _ in given} for given in (self.lent, self.handed))
         for kind, name in function.parameters:
             if kind == "ptr":
                 region = (function.name, name)
-                known[name] = Lent(region) if region in lent else Place(region, 0)
+                if region in lent & own:
+                    raise Failed("%s of %s is handed own memory and lent memory" % (name, function.name))
+                known[name] = Lent(region) if region in {*lent, *self.slices} else Place(region, 0)
         for form, parts, line in function.instructions:
             try:
                 getattr(self, form)(known, parts)
@@ -192,11 +193,6 @@ class Accesses:
             for name in firsts:
                 del calls[name]
         return order
-
-    def parameters_kinds(self):
-        """a parameter is own memory or lent memory in every call"""
-        for function, name in {parameter for parameter, _ in self.lent} & {parameter for parameter, _ in self.handed}:
-            raise Failed("%s of %s is an address of own memory and of lent memory" % (name, function))
 
     def lent_arrays(self):
         """what is lent though it is own memory is an array of bytes or of pixels, allocated where it is lent"""

@@ -42,7 +42,8 @@ FORMS = {name: re.compile(form.format(n=NUMBER, p=PAIR, t=TYPE, v=VALUE, s=STATI
 LABEL = re.compile(r"[\w.]+:(?: +; (?:preds = [%\w., ]+|No predecessors!))?")
 HEAD = re.compile(r"define (?P<internal>internal )?(?:noundef )?(?:zeroext )?(?P<answer>void|%s|%s) "
                   r"(?P<name>%s|@thalluskin_\w+)\((?P<parameters>[^()]*)\) #0 \{" % (NUMBER, PAIR, INTERNAL))
-PARAMETER = re.compile(r"(?P<type>%s)(?: noundef)?(?: zeroext)?(?P<align> align \d+)? (?P<name>%%\w+)" % TYPE)
+PARAMETER = re.compile(r"(?P<type>%s|ptr(?= noundef))(?: noundef)?(?: zeroext)?(?P<align> align \d+)? (?P<name>%%\w+)"
+                       % NUMBER)
 OUTSIDE = re.compile("|".join([
     r"", r"; ModuleID = '[^']*'", r"; Function Attrs: [\w():, ]+", r'source_filename = "rattle"',
     r'target datalayout = "e-m:e-p270:32:32-p271:32:32-p272:64:64-i64:64-i128:128-f80:128-n8:16:32:64-S128"',

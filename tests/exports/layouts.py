@@ -32,14 +32,17 @@ SLICES_IN_C = {"&[u8]": "const uint8_t *", "&mut [u8]": "uint8_t *", "&mut [u32]
 IN_RUST = {"MetricsUnpacked": "Metrics", "AcceleratorUnpacked": "Accelerators"}  # the others have their own names
 
 
+DECLARED = r"#\[repr\(C\)\]\s*#\[derive\(Clone, Copy\)\]\s*pub struct (\w+)"
+
+
 def declared():
     """the fields of each #[repr(C)] struct, with their types"""
     structs = {}
     for crate in CRATES:
         text = re.sub(r"//.*", "", read("crates", crate, "src", "lib.rt"))
-        for name, fields in re.findall(r"#\[repr\(C\)\]\s*pub struct (\w+) \{(.*?)\}", text, re.S):
+        for name, fields in re.findall(DECLARED + r" \{(.*?)\}", text, re.S):
             structs[name] = re.findall(r"pub (\w+): (\w+)", fields)
-        for name, kind in re.findall(r"#\[repr\(C\)\]\s*pub struct (\w+)\(pub (\w+)\);", text):
+        for name, kind in re.findall(DECLARED + r"\(pub (\w+)\);", text):
             structs[name] = [("0", kind)]
     return {name: structs[name] for name in IN_C}
 
@@ -47,11 +50,11 @@ def declared():
 def functions():
     """of each exported function that answers with a struct, so of all but the version's, its parameters in order, name
     and type, and its answer's type"""
-    source = os.path.join("crates", "thalluskin", "src")
+    source = os.path.join("crates", "thalluskin_c", "src")
     made = {}
     for file in sorted(os.listdir(os.path.join(ROOT, source))):
         for name, parameters, answer in re.findall(
-                r'#\[no_mangle\]\s*pub extern "C" fn (\w+)\((.*?)\) -> (\w+)', read(source, file), re.S):
+                r'#\[unsafe\(no_mangle\)\]\s*pub extern "C" fn (\w+)\((.*?)\) -> (\w+)', read(source, file), re.S):
             if answer in IN_C:
                 made[name] = (re.findall(r"(\w+): ([^,]+)", parameters), answer)
     return made
