@@ -1,4 +1,4 @@
-use Prim.Native.Nat.{◌-◌}
+use Prim.Native.Nat.{◌-◌, ◌<◌}
 use native.Mathlib.Omega.{arith}
 use Rattle.paint.proofs.Lines.{Dotted, no_dot, dot_more, all_dots}
 use Rattle.paint.proofs.bar.dots.Statement.{statement}
@@ -22,6 +22,6 @@ dots_spec =
     (λ c. omega arith)  -- slice-write-buf
     (λ c. omega arith)  -- add-b
     (λ c. omega arith)  -- loop-less
-    (λ c. search dot_more)  -- loop-again
+    (λ c. let below : c.loop-b.b < c.args.n = omega arith in search (dot_more, below))  -- loop-again
     (λ c. omega arith)  -- same-length
     (λ c. search all_dots))  -- returns

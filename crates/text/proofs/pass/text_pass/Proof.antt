@@ -45,7 +45,7 @@ text_pass_spec =
     let settled = (known (tie.Start invariant-loop-code decreases-loop-code) (search)).requires.0 in
     let readable = (known (tie.Start invariant-loop-code decreases-loop-code) (search)).requires.1.0 in
     (omega (arith, settled.scale_high), search (placed_near, settled, readable)))  -- pen_after-requires
-    (λ c. search step_less)  -- loop-less
+    (λ c. omega (arith, step_less c.args.text.now c.loop-code.i c.step_at-here.result c.in-Char.code c.in-Char.next (search) (search)))  -- loop-less
     (λ c. search (walking_next, (known (tie.Start invariant-loop-code decreases-loop-code) (search)).requires.0))  -- loop-again
     (λ c. search rules)  -- enum-known-drawn-2
     (λ c. omega arith)  -- same-length
