@@ -1,8 +1,8 @@
 """Every access to memory of a module, and whether it means the same where a pointer has 4 bytes as where it has 8.
 
 A function's own memory is what it allocates and what its caller hands it the address of: answers, records. Lent memory
-is what the pointer of a slice points to: a font's bytes, a text, a buffer, a constant array of bytes. A slice, a pointer
-and a length, is handed on as these two. The module is refused unless
+is what the pointer of a slice points to: a font's bytes, a text, a buffer; and a constant array of bytes. A slice is
+handed on as a pointer and a length. The module is refused unless
 
   - own memory is reached by constant offsets, within what was allocated or what the header says a struct has, at the
     alignment that the access asks for;

@@ -1,7 +1,7 @@
 """The exported functions in LLVM's text: as the kit writes them for a prototype of the header, with structs by value in
 the way of x86-64, and as other processors have them, with structs lent. Both hand on to a function of the crate
-thalluskin_c that takes its answer's place, a slice as a pointer, which is not null, and a length, a struct of one or two
-numbers as these, other structs by pointers, and numbers as they are."""
+thalluskin_c that takes its answer's place, a slice as a pointer, which is not null, and a length, a struct of one or
+two numbers as these, other structs by pointers, and numbers as they are."""
 from processors import header
 from processors.accesses import READ_BYTES, WRITE_BYTES, WRITE_PIXELS
 from processors.header import BY_VALUE, LENT

@@ -9,6 +9,7 @@ from processors.table import OWN
 
 # bytes by the header's functions, all of them together, names of functions, bytes by the header's functions
 Figures = collections.namedtuple("Figures", "alone whole undefined stacks")
+WASM_STACK = 16384
 
 
 def calls(name):
@@ -20,7 +21,7 @@ def calls(name):
 def linked_wasm(made, exports, out):
     """a program that exports these functions; its stack lies below all else, so that one that is too deep traps"""
     run(tool("ld.lld"), "-flavor", "wasm", "--no-entry", *("--export=" + name for name in exports), "--gc-sections",
-        "--strip-all", "-z", "stack-size=16384", "--stack-first", made, "-o", out)
+        "--strip-all", "-z", "stack-size=%d" % WASM_STACK, "--stack-first", made, "-o", out)
     return os.path.getsize(out)
 
 

@@ -1,6 +1,6 @@
-"""The Rattle kit: its tools, and what it makes of the library. One run of `rt lib` proves the library and makes both the
-archive for x86-64 and the LLVM module that the archive is compiled from, which is taken where the kit hands it to its
-clang."""
+"""The Rattle kit: its tools, and what it makes of the library. One run of `rt lib` proves the library and makes both
+the archive for x86-64 and the LLVM module that the archive is compiled from, which is taken where the kit hands it to
+its clang."""
 import fcntl
 import os
 import shlex

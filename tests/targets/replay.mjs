@@ -11,7 +11,7 @@ const plan = JSON.parse(readFileSync(planned));
 const AROUND = 32, PATTERN = 0x5a, PAINT = 0xc5c5c5c5, PAGE = 65536, ANSWER = 512, STRUCTS = 256;
 const FONT = 1, BUFFER = 3, SAME_FONT = 2n ** 64n - 1n;
 
-// ---- the library's memory: the stack up to the heap's base, then the answer, structs, and what is lent
+// ---- the library's memory: the stack, constants up to the heap's base, then the answer, structs, and what is lent
 
 const { instance } = await WebAssembly.instantiate(readFileSync(library), {});
 const { memory, __heap_base: { value: base }, ...functions } = instance.exports;
@@ -25,7 +25,7 @@ for (const { name, room, step } of plan.objects) {
 // as much again for the one that stands at the memory's end
 memory.grow(Math.ceil((2 * free - base) / PAGE) - memory.buffer.byteLength / PAGE);
 const bytes = new Uint8Array(memory.buffer), view = new DataView(memory.buffer);
-const stack = new Uint32Array(memory.buffer, 0, base / 4);
+const stack = new Uint32Array(memory.buffer, 0, plan.stack / 4), constants = bytes.slice(plan.stack, base);
 const deepest = plan.functions.map(() => 0);
 
 // What is lent stands between patterns; one object in turn ends where the memory ends, past which nothing can be read.
@@ -105,7 +105,7 @@ function made({ name, answer, parameters }, kind, numbers, turn, isSecond) {
 
 if (functions.thalluskin_version() !== plan.version)
   throw new Error("the library is of another version than the header");
-if (bytes.subarray(0, base).some((byte) => byte !== 0))
+if (base < plan.stack || bytes.subarray(0, plan.stack).some((byte) => byte !== 0))
   throw new Error("the library has data where its stack is looked for");
 const input = readFileSync(calls), output = [];
 let place = 0;
@@ -129,5 +129,7 @@ for (let turn = 0; place < input.length; turn++) {
 }
 if (place !== input.length)
   throw new Error("the input is cut");
+if (Buffer.compare(bytes.subarray(plan.stack, base), constants) !== 0)
+  throw new Error("the library's constants are written");
 writeFileSync(left, Buffer.concat(output));
 deepest.forEach((bytes, kind) => console.log(`stack ${kind.toString(16)} ${bytes.toString(16)}`));

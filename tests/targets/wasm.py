@@ -5,7 +5,7 @@ import os
 from common import TESTS
 from exports import cases, layouts
 from exports.asked import BEYOND, PATTERN
-from processors import header
+from processors import figures, header
 from targets.tools import Need, said_by
 
 PROGRAM = os.path.join(TESTS, "targets", "replay.mjs")
@@ -44,7 +44,7 @@ def plan(rooms):
     version = header.defined("THK_VERSION")
     return {"functions": [function(name) for name in cases.KINDS], "numbers": len(NUMBERS), "version": version,
             "objects": [{"name": name, "room": rooms[name], "step": step} for name, _, step in OBJECTS],
-            "record": layouts.size_of("Record"), "pattern": PATTERN, "beyond": BEYOND}
+            "record": layouts.size_of("Record"), "stack": figures.WASM_STACK, "pattern": PATTERN, "beyond": BEYOND}
 
 
 class Node:
