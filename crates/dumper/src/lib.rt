@@ -12,11 +12,6 @@ use reads::CharCode;
 use tables::Record;
 use vet::Vetted;
 
-// Stands where no run comes: each caller proves that of its place.
-fn unreached()
-    requires { ⊥ }
-{}
-
 // The single line `refused NN`.
 fn print_refused(number: u8, out: &mut [u8])
     requires number_bound { number ≤ 99 }
@@ -27,7 +22,7 @@ fn print_refused(number: u8, out: &mut [u8])
             io::write_all(1, &out[..n]);
         }
         Printed::Refused(_) => {
-            unreached();
+            unreachable!();
         }
     }
 }
@@ -45,7 +40,7 @@ fn print_frame(font: &[u8], rec: Record, code: CharCode, out: &mut [u8])
         }
         Printed::Refused(r) => {
             if r.number != 9 {
-                unreached();
+                unreachable!();
             }
         }
     }
