@@ -12,7 +12,7 @@
 //! # Ok::<(), thalluskin::Refusal>(())
 //! ```
 //!
-//! Places, lengths and counts are `u64` on every processor, as in the archive. A call takes stack, on x86-64 some 3,700
+//! Places, lengths and counts are `u64` on every processor, as in the archive. A call takes stack, on x86-64 some 3,200
 //! bytes at most, in [`Font::vet`]; include/thalluskin.h has the figure of each, and the page that `./thalluskin build`
 //! leaves those of another processor.
 #![no_std]
