@@ -89,7 +89,7 @@ module _ (lay : Layout) (len : ℕ) where
 
 -- ---- the promise
 
--- "A passed font is such bytes with the record that loading gave for them"; a well_formed text, and arguments within their limits
+-- "A passed font is such bytes with the record that loading gave for them"; a well-formed text, and arguments within their limits
 pub record Given (s : List ℕ) (rec : Record) (text : List ℕ) (lay : Layout) : Type 0 where
   pub passed : vetted s ≡ Vetted.Passed rec
   pub well_formed : WellFormed text

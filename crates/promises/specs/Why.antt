@@ -1,5 +1,5 @@
 -- What each reason says of the font's bytes and of the arguments, in plain logic, and which stand before which. From document 02: "names one
--- reason: code above 65,535, outside the first-byte bounds (unless both are 0), outside the second_byte_lem bounds (the whole code if they are),
+-- reason: code above 65,535, outside the first-byte bounds (unless both are 0), outside the second-byte bounds (the whole code if they are),
 -- entry 65,535, refusals 10 to 14 or 16, rows cut with how many, no set bit in the drawn rows, or drawn. The first in this order is given and
 -- proved true of the font"; "Placing, characters, texts and R-1 pass the longer answer on (R-1's first four reasons only with 9)".
 use Rattle.std.specs.Prelude.{ℕ, ◌+◌, ◌-◌, ◌*◌, ◌/◌, ◌%◌, ◌≤◌, ◌<◌, ◌≡◌, Bool, true, cond, List, ◌⊎◌, length}
@@ -44,7 +44,7 @@ Outside low high n = (n < low) ⊎ (high < n)
 abbrev pub FirstOutside : EncodingData → ℕ → Type 0
 FirstOutside c code = (BothNought c → ⊥) × Outside c.low1 c.high1 (code / 256)
 
--- "outside the second_byte_lem bounds (the whole code if they are)"
+-- "outside the second-byte bounds (the whole code if they are)"
 abbrev pub SecondOutside : EncodingData → ℕ → Type 0
 SecondOutside c code = (BothNought c × Outside c.low2 c.high2 code) ⊎ ((BothNought c → ⊥) × Outside c.low2 c.high2 (code % 256))
 

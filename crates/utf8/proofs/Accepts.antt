@@ -1,4 +1,4 @@
--- The walk accepts exactly the well_formed texts, and refuses every other with 19 at the byte where its first ill-formed sequence starts.
+-- The walk accepts exactly the well-formed texts, and refuses every other with 19 at the byte where its first ill-formed sequence starts.
 use Prim.Native.Nat.{ℕ, zero, suc, ◌+◌, ◌-◌, ◌<◌}
 use mathlib.Core.Path.{◌≡◌, refl, sym, ap, subst, ◌∙◌}
 use mathlib.Core.Logic.{◌↔◌}
@@ -73,7 +73,7 @@ module _ (text : List ℕ) where
   unfolding decoded
   told_all = told (suc (length text)) 0 (omega arith)
 
-  -- ---- what well_formed texts have the walk do
+  -- ---- what well-formed texts have the walk do
 
   answer_parts : (parts : List (List ℕ)) → Each parts → (i : ℕ) (rest : List ℕ) (a : Checked) → drop i text ≡ joined parts ++ rest → Answer text i a → Answer text (i + length (joined parts)) a
   answer_parts [] fs i rest a e x = let same : i ≡ i + 0 = omega arith in subst (λ (k : ℕ). Answer text k a) same x

@@ -62,7 +62,7 @@ module _ (text : List ℕ) where
   accepted Checked.Whole e z = whole_text_lem e
   accepted (Checked.Refused r) e z = absurd (omega (arith, (refused_text r e).0))
 
-  -- number 0 exactly for a text that is short enough and well_formed
+  -- number 0 exactly for a text that is short enough and well-formed
   pub check_accepts : ((said_checked (checked_text text)).number ≡ 0) ↔ ((length text ≤ 65535) × WellFormed text)
   check_accepts = (accepted (checked_text text) refl, λ (h, w). rw (well_whole h w))
 

@@ -39,7 +39,7 @@ abbrev pub FitsOne : List (List Range) → List ℕ → Type 0
 FitsOne [] bs = ⊥
 FitsOne (l ∷ ls) bs = Fits l bs ⊎ FitsOne ls bs
 
--- the bytes are one well_formed sequence
+-- the bytes are one well-formed sequence
 abbrev pub Sequence : List ℕ → Type 0
 Sequence bs = FitsOne lines bs
 
@@ -51,13 +51,13 @@ abbrev pub joined : List (List ℕ) → List ℕ
 joined [] = []
 joined (q ∷ qs) = q ++ joined qs
 
--- a text is well_formed if it is such sequences one after another
+-- a text is well-formed if it is such sequences one after another
 pub record WellFormed (text : List ℕ) : Type 0 where
   pub parts : List (List ℕ)
   pub each : Each parts
   pub is : text ≡ joined parts
 
--- the first ill-formed sequence starts at byte p: what stands before is well_formed, and no sequence starts there
+-- the first ill-formed sequence starts at byte p: what stands before is well-formed, and no sequence starts there
 pub record IllFormed (text : List ℕ) (p : ℕ) : Type 0 where
   pub before : WellFormed (take p text)
   pub inside : p < length text

@@ -1,5 +1,5 @@
 -- Why a character is not on the glass, or is. From document 02: "names one reason: code above 65,535, outside the first-byte bounds (unless
--- both are 0), outside the second_byte_lem bounds (the whole code if they are), entry 65,535, refusals 10 to 14 or 16, rows cut with how many, no
+-- both are 0), outside the second-byte bounds (the whole code if they are), entry 65,535, refusals 10 to 14 or 16, rows cut with how many, no
 -- set bit in the drawn rows, or drawn. The first in this order is given"; "Placing, characters, texts and R-1 pass the longer answer on
 -- (R-1's first four reasons only with 9)".
 use Rattle.std.specs.Prelude.{ℕ, ◌-◌, Bool, cond, List, leb, ltb}
@@ -59,7 +59,7 @@ unfoldable pub glyph_reason : List ℕ → Record → GlyphIndex → ℕ → Pla
 glyph_reason s rec g len at =
     cond (leb rec.metrics.count g.0) Reason.NoMetrics (measured_reason s rec g len at (glyph_metrics s rec.metrics g.0))
 
--- a code without a glyph to show it: "code above 65,535, outside the first-byte bounds [...], outside the second_byte_lem bounds [...], entry
+-- a code without a glyph to show it: "code above 65,535, outside the first-byte bounds [...], outside the second-byte bounds [...], entry
 -- 65,535"
 unfoldable pub code_reason : EncodingData → ℕ → Reason
 code_reason c code =
