@@ -1,5 +1,6 @@
 // What libthalluskin.a exports: each function of the library for C, `crates/thalluskin`, under its own name and with its
-// clauses. `include/thalluskin.h` declares them.
+// clauses. `include/thalluskin.h` declares them. The marks of an export in that crate export nothing, since Rattle's
+// crates use it as a library.
 #![tactic(auto)]
 
 ghost use Rattle.std.specs.Prelude.{◌≡◌, cond, length};
@@ -258,7 +259,7 @@ pub extern "C" fn thalluskin_utf8_step(text: &[u8], i: usize) -> StepAnswer
     thalluskin::thalluskin_utf8_step(text, i)
 }
 
-// 10,000 times its first number, 100 times its second, and its third.
+// The version of the archive: 10,000 times its first number, 100 times its second, and its third.
 #[unsafe(no_mangle)]
 pub extern "C" fn thalluskin_version() -> u32
     ensures { result ≡ version }
