@@ -53,7 +53,7 @@ def home():
     rt = shutil.which("rt")
     if not rt:
         raise Failed("the Rattle kit's command 'rt' is not on the PATH")
-    return os.path.dirname(os.path.dirname(os.path.realpath(rt)))
+    return os.environ.get("RATTLE_HOME", os.path.dirname(os.path.dirname(os.path.realpath(rt))))
 
 
 def tool(name):

@@ -2,7 +2,6 @@
 emulated, and the calls are replayed again, and Rust tried, with the library that tests/native makes for it, each where
 the tools are to be had."""
 import os
-import platform
 import shutil
 
 import common
@@ -72,9 +71,7 @@ def machine():
             if not has(command, *packages):
                 fail("%s is not there and cannot be installed" % command)
         return Native()
-    emulator = os.path.join(library.home(), "on", platform.machine(), "toolchain", "bin", "qemu-x86_64")
-    if not os.path.exists(emulator):
-        emulator = "qemu-x86_64" if has("qemu-x86_64", "qemu-user") else None
+    emulator = "qemu-x86_64" if has("qemu-x86_64", "qemu-user") else None
     if emulator and has("x86_64-linux-gnu-gcc", "gcc-x86-64-linux-gnu", "libc6-dev-amd64-cross"):
         return Cross(emulator)
     return None

@@ -6,11 +6,10 @@ ROOT = os.path.dirname(os.path.dirname(os.path.dirname(os.path.abspath(__file__)
 sys.path.insert(0, ROOT)
 
 from processors.build import USUAL, compiled, for_this_machine  # noqa: E402
-from processors.kit import ARCHIVE, TARGET, Failed, archive, home, module, run, tool  # noqa: E402
+from processors.kit import ARCHIVE, TARGET, Failed, archive, module, run, tool  # noqa: E402
 from processors.table import OWN  # noqa: E402
 
-__all__ = ["ARCHIVE", "ROOT", "TARGET", "Failed", "archive", "for_this_machine", "home", "lent", "module", "run",
-           "tool"]
+__all__ = ["ARCHIVE", "ROOT", "TARGET", "Failed", "archive", "for_this_machine", "lent", "module", "run", "tool"]
 
 
 def lent(folder):
