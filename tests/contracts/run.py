@@ -39,13 +39,21 @@ def determines(clauses):
 
 def fixed():
     """(crate, name), and what is fixed, "answer", "part" or "buffer" with the answer, of each theorem of those
-    files: one about that function's own contract, and no other"""
-    found = collections.defaultdict(set)
+    files: one about that function's own contract, and no other; and of which functions one speaks of the contract in the
+    logic alone"""
+    found, in_logic = collections.defaultdict(set), set()
     for path in sorted(glob.glob(os.path.join(ROOT, "crates", "promises", "proofs", "Unique*.antt"))):
         with open(path, encoding="utf-8") as f:
-            for function, what in fixed_by(f.read()):
+            for function, what, is_in_logic in fixed_by(f.read()):
                 found[function].add(what)
-    return found
+                if is_in_logic:
+                    in_logic.add(function)
+    return found, in_logic
+
+
+def is_of_the_view(crate, clauses):
+    """whether a function takes or makes a view of a font"""
+    return crate == "font" and bool(re.search(r"\bself\b|-> Font\b", clauses))
 
 
 def stated(text, name, indent=""):
@@ -64,7 +72,7 @@ def fixed_by(text):
         if says and re.search(kinds, text, re.M):
             whole = {"": "", "Part": r"\(λ κs r\. r\)", "Lent": r"\(λ κs x\. x(?:\.[01])*\.now\)"}[says[1]]
             if re.fullmatch(whole, says[2]):
-                yield (crate, name), {"": "answer", "Part": "part", "Lent": "buffer"}[says[1]]
+                yield (crate, name), {"": "answer", "Part": "part", "Lent": "buffer"}[says[1]], False
     contracts = r"^use Rattle\.(\w+)\.specs\.contracts\.(?:Font\.)?(\w+) as (view-\S+)$"
     for crate, name, short in re.findall(contracts, text, re.M):
         s = re.escape(short)
@@ -72,7 +80,7 @@ def fixed_by(text):
         says = re.fullmatch(theorem, stated(text, short.replace("-", "_") + "_unique", "  "))
         for fixed_part, form in VIEW.items():
             if says and re.fullmatch(form, says[1]):
-                yield (crate, name), fixed_part
+                yield (crate, name), fixed_part, True
 
 
 def passing():
@@ -92,7 +100,7 @@ def passing():
 
 
 def main():
-    theorems, found, bad = fixed(), set(), list(passing())
+    (theorems, in_logic), found, bad = fixed(), set(), list(passing())
     for crate, name, clauses in public_functions():
         found.add((crate, name))
         if re.search(r"\brequires\b", clauses):
@@ -105,6 +113,8 @@ def main():
             continue
         if (crate, name) not in theorems:
             bad.append(f"{crate}::{name} has no theorem that its contract determines its answer")
+        elif is_of_the_view(crate, clauses) and (crate, name) not in in_logic:
+            bad.append(f"{crate}::{name} has no theorem on its contract in the logic alone")
         elif theorems[crate, name] != {determines(clauses)}:
             has, must = " and its ".join(sorted(theorems[crate, name])), determines(clauses)
             bad.append(f"{crate}::{name} has a theorem on its {has}, not on its {must}")
