@@ -14,6 +14,7 @@ use reads::{CharCode, Refusal};
 use tables::Record;
 
 // The eight fields of the line, of a glyph with this name.
+#[tactic(auto, using(crate::proofs::Lines::sizes))]
 fn put_fields(
     s: &[u8],
     rec: Record,

@@ -7,7 +7,9 @@ use mathlib.Core.Logic.{⊎_elim}
 use native.Mathlib.Omega.{arith}
 use native.Mathlib.Nat.{le_refl}
 use lib.Dec.{eqb, leb}
-use lib.ListN.{length}
+use lib.ListN.{length, get_or}
+use mir.Val.{Fits}
+use mir.Syntax.{w8}
 use borrow.Author.Tests.{eqb-true}
 use Rattle.reads.specs.Num.{Octets}
 use Rattle.reads.specs.Said.{refusal}
@@ -30,6 +32,10 @@ use Rattle.bitmaps.proofs.NoDots.{none_found, no_dots}
 use Rattle.bitmaps.proofs.LastByte.{glyph_short}
 use Rattle.bitmaps.proofs.LentRows.{Found, past_in_file}
 use Rattle.outcome.proofs.Corner.{corner_free}
+
+-- lent bytes are bytes
+pub octets : (s : List ℕ) → ((i : ℕ) → Fits w8 (get_or s i 0)) → Octets s
+octets s fits = record { below = λ i. (fits i).fits }
 
 -- ---- what the steps tell of 14 and 16
 

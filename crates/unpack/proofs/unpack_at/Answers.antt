@@ -2,12 +2,11 @@ use mathlib.Core.Path.{◌≡◌, refl}
 use native.Mathlib.Omega.{arith}
 use native.Mathlib.Nat.{le_refl}
 use lib.ListN.{length}
-use Rattle.reads.specs.Num.{Octets}
 use Rattle.bitmaps.specs.Unpack.{whole_columns, unscaled, unpacked_at}
 use Rattle.bitmaps.specs.declared.Unpacked.{Unpacked}
 use Rattle.bitmaps.proofs.LentRows.{rows_found, from_fits, rows_there, lent_room, lent_drawn}
 use Rattle.bitmaps.proofs.NoDots.{dots_behind}
-use Rattle.outcome.proofs.Tests.{Passed, nothing_coloured, unpacked_13, unpacked_nothing, unpacked_14, unpacked_16, unpacking_fits, unpacking_searched}
+use Rattle.outcome.proofs.Tests.{octets, Passed, nothing_coloured, unpacked_13, unpacked_nothing, unpacked_14, unpacked_16, unpacking_fits, unpacking_searched}
 use Rattle.unpack.proofs.unpack_at.Goals as goal
 use Rattle.unpack.proofs.unpack_at.Goals.{Joined-corner_past, then-corner_past+else-rows_past, else-corner_past}
 
@@ -17,9 +16,8 @@ passed : (c : Joined-corner_past) →
     c.args.g.0 c.args.width (whole_columns c.args.width) c.args.height c.offset_of-first.result c.row_stride-step.result (unscaled c.args.p c.args.stride)
     (length c.args.buf.now)
 passed c =
-    let octets : Octets c.args.s.now = record { below = λ i. (c.type_inv.s i).fits } in
     elim c.if-corner_past.branch [
-      | then-corner_past+else-rows_past w ↦ search (unpacking_searched, rows_found, octets)
+      | then-corner_past+else-rows_past w ↦ search (unpacking_searched, rows_found, octets c.args.s.now c.type_inv.s)
       | else-corner_past w ↦ search (unpacking_fits, rows_found)
     ]
 
@@ -38,27 +36,24 @@ overflow_add-from c = search from_fits
 
 pub returns-then-rows_past : goal.returns-then-rows_past
 returns-then-rows_past c =
-    let octets : Octets c.args.s.now = record { below = λ i. (c.type_inv.s i).fits } in
-    record { value = search (unpacked_16, rows_found, octets); buf_after = refl }
+    record { value = search (unpacked_16, rows_found, octets c.args.s.now c.type_inv.s); buf_after = refl }
 
 pub unpack_rows-requires : goal.unpack_rows-requires
 unpack_rows-requires c =
     let t = passed (goal.at.unpack_rows-requires c).Joined-corner_past in
-    let octets : Octets c.args.s.now = record { below = λ i. (c.type_inv.s i).fits } in
     let order = c.order_of-then-p-buf.ensures in
     record {
       le_n = (t.found.rows, rows_there _ _ _ _ _ _ _ t.found _ order);
-      buf_value = lent_room _ _ _ _ _ _ _ t.found _ order _ _ _ _ (le_refl _) octets c.args.buf.now t.room;
+      buf_value = lent_room _ _ _ _ _ _ _ t.found _ order _ _ _ _ (le_refl _) (octets c.args.s.now c.type_inv.s) c.args.buf.now t.room;
     }
 
 pub returns-then-p-buf : goal.returns-then-p-buf
 returns-then-p-buf c =
     let t = passed (goal.at.returns-then-p-buf c).Joined-corner_past in
-    let octets : Octets c.args.s.now = record { below = λ i. (c.type_inv.s i).fits } in
     let order = c.order_of-then-p-buf.ensures in
     record {
       value = t.answer;
-      buf_after = lent_drawn _ _ _ _ _ _ _ t.found _ order _ _ _ _ (le_refl _) octets _ _ _ c.unpack_rows.ensures;
+      buf_after = lent_drawn _ _ _ _ _ _ _ t.found _ order _ _ _ _ (le_refl _) (octets c.args.s.now c.type_inv.s) _ _ _ c.unpack_rows.ensures;
     }
 
 pub returns-else-p-buf : goal.returns-else-p-buf

@@ -1,6 +1,5 @@
-use Rattle.reads.specs.Num.{Octets}
 use Rattle.bitmaps.proofs.LentRows.{all_there, rows_found, from_fits}
-use Rattle.outcome.proofs.Tests.{shown_13, shown_nothing, shown_14, shown_16, shown_fitting, shown_searched}
+use Rattle.outcome.proofs.Tests.{octets, shown_13, shown_nothing, shown_14, shown_16, shown_fitting, shown_searched}
 use Rattle.outcome.proofs.check.shown_at.Goals as goal
 use Rattle.outcome.proofs.check.shown_at.Goals.{then-corner_past+else-rows_past, else-corner_past}
 
@@ -18,13 +17,11 @@ overflow_add-from c = search from_fits
 
 pub returns-then-rows_past : goal.returns-then-rows_past
 returns-then-rows_past c =
-    let bytes : Octets c.args.s.now = record { below = λ i. (c.type_inv.s i).fits } in
-    search (shown_16, rows_found, bytes)
+    search (shown_16, rows_found, octets c.args.s.now c.type_inv.s)
 
 pub returns : goal.returns
 returns c =
-    let bytes : Octets c.args.s.now = record { below = λ i. (c.type_inv.s i).fits } in
     elim c.if-corner_past.branch [
-      | then-corner_past+else-rows_past w ↦ search (shown_searched, rows_found, bytes)
+      | then-corner_past+else-rows_past w ↦ search (shown_searched, rows_found, octets c.args.s.now c.type_inv.s)
       | else-corner_past w ↦ search (shown_fitting, all_there)
     ]
