@@ -83,15 +83,20 @@ def fixed_by(text):
                 yield (crate, name), fixed_part, True
 
 
+def in_one_line(clauses):
+    """a signature and its clauses, however many lines the layout gives the parameters"""
+    return re.sub(r"\s+", " ", clauses).replace("( ", "(").replace(", )", ")").strip()
+
+
 def passing():
     """what is wrong with the functions that the static library exports: each has the name, the parameters, the answer
     and the clauses of a function of the library, so that what is proved of that one is said of it too"""
     of_library = collections.defaultdict(set)
     for crate, name, clauses in public_functions():
-        of_library[name].add(clauses)
+        of_library[name].add(in_one_line(clauses))
     exported = list(exported_functions())
     for crate, name, clauses in exported:
-        if clauses not in of_library[name]:
+        if in_one_line(clauses) not in of_library[name]:
             yield f"{crate}::{name} does not have the signature and the clauses of a library's function {name}"
     exporting = {name for _, name, _ in exported}
     for crate, name, _ in public_functions():

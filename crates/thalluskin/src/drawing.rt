@@ -41,8 +41,7 @@ fn rows_answer(drawn: Drawn) -> RowsAnswer
 
 // Draws a glyph's bitmap at `start`, as `paint::draw_bitmap` does. Refused, with place 0 and no pixel coloured: 6, 15,
 // an unknown mode too, 12, 13, 14, 16.
-#[unsafe(no_mangle)]
-pub extern "C" fn thalluskin_draw_bitmap(
+pub fn thalluskin_draw_bitmap(
     bytes: &[u8],
     rec: Record,
     bitmap: Bitmap,
@@ -68,8 +67,7 @@ pub extern "C" fn thalluskin_draw_bitmap(
 
 // Draws a placed glyph, as `glyphs::draw_glyph` does. Refused, with place 0 and no pixel coloured: 6, 15, an unknown
 // mode too, 13, 14, 16.
-#[unsafe(no_mangle)]
-pub extern "C" fn thalluskin_draw_glyph(
+pub fn thalluskin_draw_glyph(
     bytes: &[u8],
     rec: Record,
     info: GlyphInfo,
@@ -119,8 +117,7 @@ fn char_answer(drawn: CharDrawn) -> CharAnswer
 
 // Draws a character, as `glyphs::draw_char` does. Refused, with place 0 and no pixel coloured: 6, 15, an unknown mode
 // too, 9, 10, 11, 13, 14, 16.
-#[unsafe(no_mangle)]
-pub extern "C" fn thalluskin_draw_char(
+pub fn thalluskin_draw_char(
     bytes: &[u8],
     rec: Record,
     code: CharCode,
@@ -163,8 +160,7 @@ fn unpack_answer(unpacked: Unpacked) -> UnpackAnswer
 
 // Stores 1 for each set bit of a placed glyph, as `glyphs::unpack_glyph` does. Refused, with place 0 and no byte
 // changed: 6, 15, an unknown mode too, 13, 14, 16.
-#[unsafe(no_mangle)]
-pub extern "C" fn thalluskin_unpack_glyph(
+pub fn thalluskin_unpack_glyph(
     bytes: &[u8],
     rec: Record,
     info: GlyphInfo,

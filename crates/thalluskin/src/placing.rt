@@ -16,8 +16,7 @@ use reads::{CharCode, GlyphIndex};
 use tables::{Permit, Record, guard, record_fits};
 
 // The bounds' height and width, as `place::dimensions` answers them. Refused, with place 0: 6, 11.
-#[unsafe(no_mangle)]
-pub extern "C" fn thalluskin_dimensions(bytes: &[u8], rec: Record) -> ExtentAnswer
+pub fn thalluskin_dimensions(bytes: &[u8], rec: Record) -> ExtentAnswer
     ensures { result ≡ extent_answer (bounds.dimensions bytes.now rec) }
 {
     let answer = dimensions(bytes, rec);
@@ -83,13 +82,7 @@ fn info_answer(prepared: CharPrepared) -> InfoAnswer
 
 // A character's glyph, placed, as `place::prep_char` answers it. Refused, with place 0: 6, 15 for an unknown mode, 9,
 // 10, 11.
-#[unsafe(no_mangle)]
-pub extern "C" fn thalluskin_prep_char(
-    bytes: &[u8],
-    rec: Record,
-    code: CharCode,
-    mode: u32,
-) -> InfoAnswer
+pub fn thalluskin_prep_char(bytes: &[u8], rec: Record, code: CharCode, mode: u32) -> InfoAnswer
     ensures { result ≡ info_answer (guarded CharPrepared.Refused bytes.now rec (is_known mode) (prepared_in bytes.now rec (mode_of mode) code.0)) }
 {
     let permit = guard(record_fits(bytes.len(), rec), is_known(mode));

@@ -46,8 +46,7 @@ fn font_answer(loaded: Loaded) -> FontAnswer
 
 // The record of a font file, as `load::load_pcf` answers it. Refused with the first of: 1, 2, 3, 4; entry by entry,
 // with the entry's number from 0 as the place, 5, 6 (in a code table 6 for its header, 7, 6 for its entries); 8.
-#[unsafe(no_mangle)]
-pub extern "C" fn thalluskin_load(bytes: &[u8]) -> FontAnswer
+pub fn thalluskin_load(bytes: &[u8]) -> FontAnswer
     ensures { result ≡ font_answer (loaded bytes.now) }
 {
     font_answer(load_in(bytes, false))
@@ -57,8 +56,7 @@ pub extern "C" fn thalluskin_load(bytes: &[u8]) -> FontAnswer
 // `load::load_strict` answers it. Refused with the first of: 1, 2, 3, 4; entry by entry, with the entry's number from 0
 // as the place, 5, 6 for the four bytes of a known table's own word, 27 where it differs, 6 (in a code table 6 for its
 // header, 7, 6 for its entries); 8.
-#[unsafe(no_mangle)]
-pub extern "C" fn thalluskin_load_strict(bytes: &[u8]) -> FontAnswer
+pub fn thalluskin_load_strict(bytes: &[u8]) -> FontAnswer
     ensures { result ≡ font_answer (loaded_strictly bytes.now) }
 {
     font_answer(load_in(bytes, true))
@@ -67,8 +65,7 @@ pub extern "C" fn thalluskin_load_strict(bytes: &[u8]) -> FontAnswer
 // The record of a font file that passes vetting, as `vet::vet` answers it. Refused 15 for an unknown mode; as
 // `thalluskin_load_strict`; then 13; 11 of the bounds; 18 with the property's number as the place; code by code, with
 // the code as the place, 10, 11, 12, 14, 17, 18.
-#[unsafe(no_mangle)]
-pub extern "C" fn thalluskin_vet(bytes: &[u8], mode: u32) -> FontAnswer
+pub fn thalluskin_vet(bytes: &[u8], mode: u32) -> FontAnswer
     ensures { result ≡ font_answer (cond (is_known mode) (record_of bytes.now Reading.Vetted) (Loaded.Refused (refusal 15 0))) }
 {
     if is_known(mode) {
@@ -114,8 +111,7 @@ fn prop_answer(p: Property) -> PropertyAnswer
 }
 
 // A property by its number from 0, as `props::prop_at` answers it. Refused, with place 0: 6, 17, 18.
-#[unsafe(no_mangle)]
-pub extern "C" fn thalluskin_property(bytes: &[u8], rec: Record, number: u32) -> PropertyAnswer
+pub fn thalluskin_property(bytes: &[u8], rec: Record, number: u32) -> PropertyAnswer
     ensures { result ≡ property_answer (prop_at bytes.now rec number) }
 {
     let answer = prop_at(bytes, rec, number);
@@ -153,13 +149,7 @@ fn glyph_answer(found: Served) -> GlyphAnswer
 }
 
 // The glyph that shows a code, as `lookup::get_glyph` answers it. Refused, with place 0: 6, 15 for an unknown mode, 9.
-#[unsafe(no_mangle)]
-pub extern "C" fn thalluskin_glyph(
-    bytes: &[u8],
-    rec: Record,
-    code: CharCode,
-    mode: u32,
-) -> GlyphAnswer
+pub fn thalluskin_glyph(bytes: &[u8], rec: Record, code: CharCode, mode: u32) -> GlyphAnswer
     ensures { result ≡ glyph_answer (guarded Served.Refused bytes.now rec (is_known mode) (served bytes.now rec.codes (mode_of mode) code.0)) }
 {
     let permit = guard(record_fits(bytes.len(), rec), is_known(mode));
@@ -170,8 +160,7 @@ pub extern "C" fn thalluskin_glyph(
 }
 
 // Where a glyph's name stands in the bytes, as `names::get_name` answers it. Refused, with place 0: 6, 17, 18.
-#[unsafe(no_mangle)]
-pub extern "C" fn thalluskin_name(bytes: &[u8], rec: Record, glyph: GlyphIndex) -> NameAnswer
+pub fn thalluskin_name(bytes: &[u8], rec: Record, glyph: GlyphIndex) -> NameAnswer
     ensures { result ≡ name_answer (get_name bytes.now rec glyph.0) }
 {
     let answer = get_name(bytes, rec, glyph);
@@ -190,8 +179,7 @@ pub extern "C" fn thalluskin_name(bytes: &[u8], rec: Record, glyph: GlyphIndex) 
 }
 
 // A glyph's metrics, as `metrics::get_metrics` answers them. Refused, with place 0: 6, 10.
-#[unsafe(no_mangle)]
-pub extern "C" fn thalluskin_metrics(bytes: &[u8], rec: Record, glyph: GlyphIndex) -> MetricsAnswer
+pub fn thalluskin_metrics(bytes: &[u8], rec: Record, glyph: GlyphIndex) -> MetricsAnswer
     ensures { result ≡ metrics_answer (get_metrics bytes.now rec glyph.0) }
 {
     let answer = get_metrics(bytes, rec, glyph);
@@ -210,8 +198,7 @@ pub extern "C" fn thalluskin_metrics(bytes: &[u8], rec: Record, glyph: GlyphInde
 }
 
 // The accelerators, as `metrics::get_accelerators` answers them. Refused, with place 0: 6.
-#[unsafe(no_mangle)]
-pub extern "C" fn thalluskin_accel(bytes: &[u8], rec: Record) -> AccelAnswer
+pub fn thalluskin_accel(bytes: &[u8], rec: Record) -> AccelAnswer
     ensures { result ≡ accel_answer (get_accelerators bytes.now rec) }
 {
     let answer = get_accelerators(bytes, rec);

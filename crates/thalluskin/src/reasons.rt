@@ -34,8 +34,7 @@ fn why_answer(told: Told) -> WhyAnswer
 
 // Why `thalluskin_draw_char` shows a character so in a buffer of `len` pixels, as `why::why` answers it. Refused, with
 // place 0: 6, 15, an unknown mode too.
-#[unsafe(no_mangle)]
-pub extern "C" fn thalluskin_why(
+pub fn thalluskin_why(
     bytes: &[u8],
     rec: Record,
     code: CharCode,

@@ -37,8 +37,7 @@ fn text_answer(drawn: TextDrawn) -> TextAnswer
 // Draws a text, as `text::draw_string` does; `wrap` with every bit set is none. Refused, with no pixel coloured: 6, 15,
 // an unknown mode too, 19, 11 of the bounds; then the first character with one decides, and the byte where it starts is
 // the place: 10, 11, 13, 14, 16.
-#[unsafe(no_mangle)]
-pub extern "C" fn thalluskin_draw_string(
+pub fn thalluskin_draw_string(
     bytes: &[u8],
     rec: Record,
     text: &[u8],
@@ -63,8 +62,7 @@ pub extern "C" fn thalluskin_draw_string(
 }
 
 // What `thalluskin_draw_string` answers with a buffer of `len` pixels: a dry run.
-#[unsafe(no_mangle)]
-pub extern "C" fn thalluskin_text_check(
+pub fn thalluskin_text_check(
     bytes: &[u8],
     rec: Record,
     text: &[u8],
@@ -88,8 +86,7 @@ pub extern "C" fn thalluskin_text_check(
 
 // The character at byte `i` and the place after it, or the end, as `utf8::step_at` answers it. Refused: 19, with `i` as
 // the place.
-#[unsafe(no_mangle)]
-pub extern "C" fn thalluskin_utf8_step(text: &[u8], i: usize) -> StepAnswer
+pub fn thalluskin_utf8_step(text: &[u8], i: usize) -> StepAnswer
     ensures { result ≡ step_answer (step_at text.now i) }
 {
     let answer = step_at(text, i);

@@ -3,8 +3,7 @@ ghost use Rattle.std.specs.Prelude.{◌≡◌};
 ghost use Rattle.thalluskin.specs.Version.{version};
 
 // 10,000 times its first number, 100 times its second, and its third.
-#[unsafe(no_mangle)]
-pub extern "C" fn thalluskin_version() -> u32
+pub fn thalluskin_version() -> u32
     ensures { result ≡ version }
 {
     100

@@ -1,6 +1,5 @@
 // What libthalluskin.a exports: each function of the library for C, `crates/thalluskin`, under its own name and with its
-// clauses. `include/thalluskin.h` declares them. The marks of an export in that crate export nothing, since Rattle's
-// crates use it as a library.
+// clauses. `include/thalluskin.h` declares them.
 #![tactic(auto)]
 
 ghost use Rattle.std.specs.Prelude.{◌≡◌, cond, length};
