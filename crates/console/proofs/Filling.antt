@@ -31,3 +31,5 @@ module _ (old new : List ℕ) (end : ℕ) (filling : Filling old new end) where
 
   pub filling_all : length new ≤ end → Filled old new
   filling_all h = record { same_length = filling.same_length; each = λ i below. filling.each i (omega arith) }
+
+pub ruleset filling = (filling_none, filling_next, filling_all)

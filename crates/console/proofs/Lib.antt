@@ -1,2 +1,2 @@
 mod Filling
-mod Negative
+pub mod Stepping

@@ -1,2 +1,4 @@
+pub mod Asked
 pub mod Before
+pub mod Characters
 pub mod Unseen

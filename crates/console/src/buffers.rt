@@ -3,140 +3,78 @@
 ghost use Rattle.std.specs.Prelude.{◌≡◌};
 ghost use Rattle.console.specs.Before.{before, Filled};
 
-use crate::words::{number, say};
+use std::fmt;
 
-// The values before a call. Nothing is drawn in such a colour.
-fn byte_before(i: usize) -> u8
+// The value before a call. Nothing is drawn in such a colour.
+fn before(i: usize) -> u8
     ensures { result ≡ before i }
 {
     100 + (i % 7) as u8
 }
 
-fn pixel_before(i: usize) -> u32
-    ensures { result ≡ before i }
-{
-    100 + (i % 7) as u32
-}
-
-fn wide(x: u8) -> u32 {
-    x as u32
-}
-
+// Two loops of three lines: one generic loop would need a ghost value of each element for `Filled`, and be longer.
+#[tactic(auto, using(crate::proofs::Filling::filling))]
 pub fn fill_pixels(buf: &mut [u32])
     ensures { Filled buf.old buf.new }
 {
-    let mut i = 0;
-    while i < buf.len() {
-        buf[i] = pixel_before(i);
-        i += 1;
+    for i in 0..buf.len() {
+        buf[i] = u32::from(before(i));
     }
 }
 
+#[tactic(auto, using(crate::proofs::Filling::filling))]
 pub fn fill_bytes(buf: &mut [u8])
     ensures { Filled buf.old buf.new }
 {
-    let mut i = 0;
-    while i < buf.len() {
-        buf[i] = byte_before(i);
-        i += 1;
+    for i in 0..buf.len() {
+        buf[i] = before(i);
     }
 }
 
-// What was seen so far: whether any pixel changed, whether one of them has another colour than it should, and
-// the first and the last pixel of the run that the pixel before this one is in, if it is in one.
-#[derive(Clone, Copy)]
-struct Seen {
-    any: bool,
-    other: bool,
-    inside: bool,
-    first: usize,
-    last: usize,
+// The places of a filled buffer that changed, printed as 0-2,4, and whether one of them has not this colour.
+#[derive(Drop)]
+pub struct Changed<'a, T> {
+    pub buf: &'a [T],
+    pub colour: u32,
 }
 
-fn nothing_seen() -> Seen {
-    say(b"; pixels ");
-    Seen {
-        any: false,
-        other: false,
-        inside: false,
-        first: 0,
-        last: 0,
+impl<T: Copy + Into<u32>> Changed<'_, T> {
+    // What stands in a place that changed.
+    fn at(&self, i: usize) -> Option<u32> {
+        let value = (*self.buf.get(i)?).into();
+        (value != u32::from(before(i))).then_some(value)
     }
-}
 
-// Of a run its first pixel is written where it begins, and its last one, if that is another, here.
-fn end_of_run(seen: Seen) {
-    if seen.inside && seen.first < seen.last {
-        number(b"-", seen.last);
+    fn is_changed(&self, i: usize) -> bool {
+        self.at(i).is_some()
+    }
+
+    fn has_other_colour(&self, i: usize) -> bool {
+        self.at(i).is_some_and(|value| value != self.colour)
     }
 }
 
-fn start_of_run(seen: Seen, i: usize) {
-    if seen.any {
-        say(b",");
+impl<T: Copy + Into<u32>> fmt::Display for Changed<'_, T> {
+    // Of a run its first place is written, and its last one, if that is another.
+    fn fmt<W: fmt::Write>(&self, f: &mut fmt::Formatter<W>) -> fmt::Result {
+        let mut between = "";
+        for i in 0..self.buf.len() {
+            if !self.is_changed(i) {
+                continue;
+            }
+            if i == 0 || !self.is_changed(i - 1) {
+                write!(f, "{between}{i}")?;
+                between = ",";
+            } else if !self.is_changed(i + 1) {
+                write!(f, "-{i}")?;
+            }
+        }
+        if between.is_empty() {
+            write!(f, "none")?;
+        }
+        if (0..self.buf.len()).any(|i| self.has_other_colour(i)) {
+            write!(f, ", not all of the colour")?;
+        }
+        Ok(())
     }
-    number(b"", i);
-}
-
-// With a pixel that did not change, with one that begins a run, and with one more of a run.
-fn with_pixel(seen: Seen, i: usize, changed: bool, other: bool) -> Seen {
-    if !changed {
-        end_of_run(seen);
-        return Seen {
-            any: seen.any,
-            other: seen.other,
-            inside: false,
-            first: 0,
-            last: 0,
-        };
-    }
-    if seen.inside {
-        return Seen {
-            any: true,
-            other: seen.other | other,
-            inside: true,
-            first: seen.first,
-            last: i,
-        };
-    }
-    start_of_run(seen, i);
-    Seen {
-        any: true,
-        other: seen.other | other,
-        inside: true,
-        first: i,
-        last: i,
-    }
-}
-
-fn all_told(seen: Seen) {
-    end_of_run(seen);
-    if !seen.any {
-        say(b"none");
-    }
-    if seen.other {
-        say(b", not all of the colour");
-    }
-}
-
-// The pixels that changed, as 0-2,4; and whether one of them has not this colour.
-pub fn told(buf: &[u32], colour: u32) {
-    let mut seen = nothing_seen();
-    let mut i = 0;
-    while i < buf.len() {
-        seen = with_pixel(seen, i, buf[i] != pixel_before(i), buf[i] != colour);
-        i += 1;
-    }
-    all_told(seen);
-}
-
-// The same of bytes.
-pub fn told_bytes(buf: &[u8], colour: u32) {
-    let mut seen = nothing_seen();
-    let mut i = 0;
-    while i < buf.len() {
-        seen = with_pixel(seen, i, buf[i] != byte_before(i), wide(buf[i]) != colour);
-        i += 1;
-    }
-    all_told(seen);
 }

@@ -13,41 +13,22 @@ use std::str::from_utf8;
 fn argument<R: Env>(rt: &R, i: usize, path: &mut [u8]) -> usize
     ensures { result ≤ length path.new }
 {
-    match rt.arg(i, path) {
-        Ok(n) => n,
-        Err(_) => 0,
-    }
+    rt.arg(i, path).unwrap_or(0)
 }
 
 // Whether the program has an argument i, its own name being argument 0.
 pub fn has_argument<R: Env>(rt: &R, i: usize) -> bool {
-    match rt.arg(i, &mut []) {
-        Ok(_) => true,
-        Err(FillError::TooLong) => true,
-        Err(FillError::NotPresent) => false,
-    }
-}
-
-// What one read puts at the start of `out`: 0 at the file's end and where it fails.
-fn some_bytes<F: Read>(file: &mut F, out: &mut [u8]) -> usize
-    ensures { result ≤ length out.new }
-{
-    match file.read(out) {
-        Ok(n) => n,
-        Err(_) => 0,
-    }
+    !matches!(rt.arg(i, &mut []), Err(FillError::NotPresent))
 }
 
 // Reads until `out` is full, the file ends or a read fails.
-fn read_full<F: Read>(file: &mut F, out: &mut [u8]) -> usize
+pub(crate) fn read_full<F: Read>(file: &mut F, out: &mut [u8]) -> usize
     ensures { IsPrefixLen result out.new }
 {
     let mut done = 0;
-    while done < out.len() {
-        let n = some_bytes(file, &mut out[done..]);
-        if n == 0 {
-            break;
-        }
+    while let Ok(n) = file.read(&mut out[done..])
+        && n > 0
+    {
         done += n;
     }
     done
@@ -69,10 +50,10 @@ fn bytes_of<F: Read>(file: &mut F, out: &mut [u8]) -> usize
 fn file_at<R: Files>(rt: &R, path: &[u8], out: &mut [u8]) -> usize
     ensures { IsPrefixLen result out.new }
 {
-    if let Ok(name) = from_utf8(path) {
-        if let Ok(mut file) = fs::open(rt, name) {
-            return bytes_of(&mut file, out);
-        }
+    if let Ok(name) = from_utf8(path)
+        && let Ok(mut file) = fs::open(rt, name)
+    {
+        return bytes_of(&mut file, out);
     }
     say(b"no file\n");
     0
@@ -80,6 +61,7 @@ fn file_at<R: Files>(rt: &R, path: &[u8], out: &mut [u8]) -> usize
 
 // Writes a line with the name that argument i is, puts that file's bytes at the start of `out`, and answers how
 // many there are. Where there is no file, or it is not shorter than `out`, a line says so and the answer is 0.
+// A lent buffer and a count, as its clause has them: a Vec could fail, and this function cannot.
 pub fn file_of_argument<R: Env + Files>(rt: &R, i: usize, out: &mut [u8]) -> usize
     ensures { IsPrefixLen result out.new }
 {

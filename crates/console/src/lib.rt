@@ -2,14 +2,16 @@
 // that have known values before a call.
 #![tactic(auto)]
 
+mod answers;
 mod buffers;
+mod characters;
 mod codes;
 mod files;
 mod words;
 
-pub use buffers::{fill_bytes, fill_pixels, told, told_bytes};
-pub use codes::{say_code, say_hex, unseen};
+pub use answers::{Trouble, UnknownKind, area, input, number_in, print_answer};
+pub use buffers::{Changed, fill_bytes, fill_pixels};
+pub use characters::{Characters, Code, seen};
+pub use codes::unseen;
 pub use files::{file_of_argument, has_argument};
-pub use words::{
-    number, refusal, refusal_line, refusal_of, say, say_item, say_short, say_signed, say_with,
-};
+pub use words::Refused;

@@ -4,6 +4,7 @@
 // text is refused with 20, and so are its first 147,457 characters: the rest need not be read.
 #![tactic(auto)]
 
+// An array and a count: a Vec's `read_to_end` tells of a read that fails, which here counts as the input's end.
 fn main() {
     let mut text = [0u8; 147457];
     let n = io::read_full(0, &mut text);

@@ -14,14 +14,19 @@ use Rattle.vet.specs.declared.Vetted.{Vetted}
 use Rattle.frames.specs.Put.{refused_into, frame_into}
 use Rattle.frames.specs.declared.Printed.{Printed}
 use Rattle.frames.proofs.PassedFrames.{passed_nine}
-use Rattle.dumper.proofs.LineCounts.{is_bytes}
+use Rattle.dumper.proofs.LineCounts.{is_bytes, frame_within, refused_within}
 
-pub no_other_refusal : (s : List ℕ) (rec : Record) (code room : ℕ) (answer : Printed) (q : Refusal) → vetted s ≡ Vetted.Passed rec → length s ≤ 49152 → 196642 ≤ room
-    → answer ≡ frame_into s rec code room → answer ≡ Printed.Refused q → (q.number ≡ 9 → ⊥) → ⊥
-no_other_refusal s rec code room answer q passed short enough is e other = other (passed_nine s rec passed code room (omega arith) q (sym is ∙ e))
+pub no_other_refusal : (s : List ℕ) (rec : Record) (code room : ℕ) (q : Refusal) → vetted s ≡ Vetted.Passed rec → length s ≤ 49152 → 196642 ≤ room
+    → Printed.Refused q ≡ frame_into s rec code room → (q.number ≡ 9 → ⊥) → ⊥
+no_other_refusal s rec code room q passed short enough e other = other (passed_nine s rec passed code room (omega arith) q (sym e))
 
-pub refused_fits : (n room : ℕ) (r : Printed) (q : Refusal) → n ≤ 99 → 11 ≤ room → r ≡ refused_into n room → r ≡ Printed.Refused q → ⊥
+pub refused_fits : (n room : ℕ) (q : Refusal) → n ≤ 99 → 11 ≤ room → Printed.Refused q ≡ refused_into n room → ⊥
 unfolding refused_into
-refused_fits n room r q two enough answer e =
+refused_fits n room q two enough e =
     let put : refused_into n room ≡ Printed.Bytes 11 = rw (le-ltb 99 n two, le-ltb room 11 enough) refl in
-    never (ap is_bytes (sym e ∙ answer ∙ put))
+    never (ap is_bytes (e ∙ put))
+
+-- what printing a frame needs, and printing a refusal
+pub ruleset frame_fits = (frame_within, no_other_refusal)
+
+pub ruleset refusal_fits = (refused_within, refused_fits)

@@ -1,2 +1,3 @@
-mod LineCounts
-mod FramesFit
+pub mod LineCounts
+pub mod FramesFit
+pub mod TextRead

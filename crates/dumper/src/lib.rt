@@ -12,10 +12,13 @@ use reads::CharCode;
 use tables::Record;
 use vet::Vetted;
 
+// Where a line is written: a frame of a font of 49,152 bytes has at most 196,642 characters.
+type Room = [u8; 196642];
+
 // The single line `refused NN`.
-fn print_refused(number: u8, out: &mut [u8])
-    requires number_bound { number ≤ 99 }
-    requires in_bounds { 11 ≤ length out.old }
+#[tactic(auto, using(crate::proofs::FramesFit::refusal_fits))]
+fn print_refused(number: u8, out: &mut Room)
+    requires { number ≤ 99 }
 {
     match put_refused(number, out) {
         Printed::Bytes(n) => {
@@ -29,10 +32,10 @@ fn print_refused(number: u8, out: &mut [u8])
 
 // A code's frame, nothing for a code without glyph, which is refused 9. In a font that passed there is no other
 // refusal.
-fn print_frame(font: &[u8], rec: Record, code: CharCode, out: &mut [u8])
+#[tactic(auto, using(crate::proofs::FramesFit::frame_fits))]
+fn print_frame(font: &[u8], rec: Record, code: CharCode, out: &mut Room)
     requires font_value { vetted font.now ≡ Vetted.Passed rec }
     requires font_len_bound { length font.now ≤ 49152 }
-    requires in_bounds { 196642 ≤ length out.old }
 {
     match put_frame(font, rec, code, out) {
         Printed::Bytes(n) => {
@@ -48,24 +51,19 @@ fn print_frame(font: &[u8], rec: Record, code: CharCode, out: &mut [u8])
 
 // The frames in the order of their codes. Only codes of the table's range are asked: no other has a
 // glyph.
-fn print_frames(font: &[u8], rec: Record, out: &mut [u8])
+fn print_frames(font: &[u8], rec: Record, out: &mut Room)
     requires font_value { vetted font.now ≡ Vetted.Passed rec }
     requires font_len_bound { length font.now ≤ 49152 }
-    requires in_bounds { 196642 ≤ length out.old }
 {
     let range = code_range(rec.codes);
-    let end = range.end.0;
-    let mut code = range.low.0;
-    while code < end {
+    for code in range.low.0..range.end.0 {
         print_frame(font, rec, CharCode(code), out);
-        code += 1;
     }
 }
 
 // A font's frames, or the number that it is refused with; the answer is that number, or 0.
-fn print_font(font: &[u8], out: &mut [u8]) -> u8
-    requires font_len_bound { length font.now ≤ 49152 }
-    requires in_bounds { 196642 ≤ length out.old }
+fn print_font(font: &[u8], out: &mut Room) -> u8
+    requires { length font.now ≤ 49152 }
     ensures { result ≡ vetted_number (vetted font.now) }
 {
     match vet::vet(font) {
@@ -81,9 +79,8 @@ fn print_font(font: &[u8], out: &mut [u8]) -> u8
 }
 
 // The same of a text, with buffers that have room for any font and any frame.
-fn print_text(text: &[u8], font: &mut [u8], out: &mut [u8]) -> u8
-    requires in_bounds { 49152 ≤ length font.old }
-    requires in_bounds_2 { 196642 ≤ length out.old }
+#[tactic(auto, using(crate::proofs::TextRead::text_read))]
+fn print_text(text: &[u8], font: &mut [u8; 49152], out: &mut Room) -> u8
     ensures { result ≡ dump_number text.now }
 {
     match fill_bytes(text, font) {
@@ -98,8 +95,6 @@ fn print_text(text: &[u8], font: &mut [u8], out: &mut [u8]) -> u8
 // Writes the dump of a font, given as lines of hexadecimal digits, to standard output: one frame a line
 // for each code with a glyph, or the single line `refused NN`. Answers the number that it refused
 // with, 0 where it printed frames: 20 for the lines, and then as `vet::vet` refuses.
-//
-// A frame of a font of 49,152 bytes has at most 196,642 characters.
 pub fn print_dump(text: &[u8]) -> u8
     ensures { result ≡ dump_number text.now }
 {

@@ -2,13 +2,15 @@
 use mathlib.Core.Path.{◌≡◌, refl, sym, ap, ◌∙◌}
 use mathlib.Core.List.{List, [], ◌∷◌, ◌++◌}
 use Prim.Native.Nat.{ℕ, suc, ◌+◌, ◌≤◌, ◌<◌}
-use native.Mathlib.Nat.{add-zero, zero-add, add-suc, suc-add}
+use native.Mathlib.Nat.{add-zero, add-suc, suc-add}
 use native.Mathlib.Omega.{arith}
 use lib.ListN.{length, set, length-append}
 use lib.Seq.{sets}
 use borrow.Author.Tests.{lt-ltb, le-ltb}
 use Rattle.reads.specs.Said.{refusal}
-use Rattle.frames.specs.Put.{Put, line_into}
+use Rattle.frames.specs.Put.{line_into}
+use Rattle.frames.specs.Wrote.{Wrote}
+use denote.MutBor.{MutBor}
 use Rattle.frames.specs.declared.Printed.{Printed}
 
 sets-append : (l : List ℕ) (i : ℕ) (a b : List ℕ) → sets l i (a ++ b) ≡ sets (sets l i a) (i + length a) b
@@ -18,28 +20,31 @@ sets-append l i (x ∷ a) b =
     ∙ ap (λ (k : ℕ). sets (sets (set l i x) (suc i) a) k b) (suc-add i (length a) ∙ sym (add-suc i (length a)))
 
 -- two runs, the second from where the first ended
-pub then : {l m n : List ℕ} {at mid end : ℕ} {a b : List ℕ} → Put l at a mid m → Put m mid b end n → Put l at (a ++ b) end n
-then {l} {m} {n} {at} {mid} {end} {a} {b} p q =
-    let k : length (a ++ b) ≡ length a + length b = length-append a b in
+pub then : {l m n : MutBor (List ℕ)} {i j k : ℕ} {a b : List ℕ} → Wrote l i a m j → Wrote m j b n k → Wrote l i (a ++ b) n k
+then {l} {m} {n} {i} {j} {k} {a} {b} p q =
+    let long : length (a ++ b) ≡ length a + length b = length-append a b in
     record {
-      up_to = omega (arith, k, p.up_to, q.up_to);
-      stored =
-          q.stored ∙ ap (λ (x : List ℕ). sets x mid b) p.stored
-          ∙ ap (λ (x : ℕ). sets (sets l at a) x b) p.up_to ∙ sym (sets-append l at a b);
-      same = q.same ∙ p.same;
+      same_buffer = q.same_buffer ∙ p.same_buffer;
+      put = record {
+        up_to = omega (arith, long, p.put.up_to, q.put.up_to);
+        stored =
+            q.put.stored ∙ ap (λ (x : List ℕ). sets x j b) p.put.stored
+            ∙ ap (λ (x : ℕ). sets (sets l.now i a) x b) p.put.up_to ∙ sym (sets-append l.now i a b);
+        same = q.put.same ∙ p.put.same;
+      };
     }
 
--- three runs, which together are `vs`
-pub three_runs : (l m n o a b c vs : List ℕ) (at second third end : ℕ) → Put l at a second m → Put m second b third n → Put n third c end o
-    → a ++ (b ++ c) ≡ vs → Put l at vs end o
-three_runs l m n o a b c vs at second third end p q r e = rw (← e) (then p (then q r))
+-- no run at all
+pub nothing : (l : MutBor (List ℕ)) (i : ℕ) → Wrote l i [] l i
+nothing l i = record { same_buffer = refl; put = record { up_to = omega arith; stored = refl; same = refl } }
 
 -- a line and a buffer without room for it
 pub no_room : (line : List ℕ) (room : ℕ) → room < length line → Printed.Refused (refusal 15 0) ≡ line_into line room
 no_room line room h = rw (lt-ltb room (length line) h) refl
 
--- a line that was written where there is room
-pub line_put : {line old new : List ℕ} {next : ℕ} → length line ≤ length old → Put old 0 line next new
-    → (Printed.Bytes next ≡ line_into line (length old)) × (new ≡ sets old 0 line)
-line_put {line} {old} {new} {next} h p =
-    (rw (le-ltb (length old) (length line) h) (ap Printed.Bytes (p.up_to ∙ zero-add (length line))), p.stored)
+-- a line that was written where there is room, at the buffer's start
+pub line_put : {line : List ℕ} {old : ℕ} {l m : MutBor (List ℕ)} {i j : ℕ} (n : ℕ) → length line ≤ old → i ≡ 0 → Wrote l i line m j → n ≡ j
+    → Printed.Bytes n ≡ line_into line old
+line_put {line} {old} {l} {m} {i} {j} n h start w is =
+    let long : n ≡ length line = omega (arith, start, w.put.up_to, is) in
+    rw (le-ltb old (length line) h) (ap Printed.Bytes long)

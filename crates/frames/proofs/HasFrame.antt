@@ -1,7 +1,7 @@
--- Which code has a frame, by the tests that the code makes; and what is known of one that has.
+-- What is known of a code that has a frame.
 use Prim.Native.Nat.{ℕ, ◌<◌}
 use mathlib.Core.Path.{◌≡◌, refl, sym, subst, ◌∙◌}
-use mathlib.Core.Bool.{Bool, true, false}
+use mathlib.Core.Bool.{false}
 use mathlib.Core.List.{List}
 use mathlib.Core.Logic.{inr}
 use native.Mathlib.Omega.{arith}
@@ -9,7 +9,6 @@ use lib.Dec.{ltb}
 use lib.ListN.{length}
 use borrow.Author.Tests.{ltb-true, ltb-false}
 use Rattle.reads.specs.Said.{refusal}
-use Rattle.reads.specs.declared.GlyphIndex.{GlyphIndex}
 use Rattle.reads.specs.declared.Refusal.{Refusal}
 use Rattle.reads.proofs.Tests.{split}
 use Rattle.tables.specs.Fits.{record_fits}
@@ -19,55 +18,14 @@ use Rattle.lookup.specs.declared.Found.{Found}
 use Rattle.lookup.proofs.OutsideRange.{Outside, outside_none, range_end}
 use Rattle.names.specs.Names.{name_of}
 use Rattle.names.specs.declared.Named.{Named}
-use Rattle.names.specs.declared.Span.{Span}
 use Rattle.bitmaps.specs.Picture.{no_bitmap, unreadable, rows_short}
 use Rattle.place.specs.Info.{info_in}
 use Rattle.place.specs.declared.GlyphInfo.{GlyphInfo}
 use Rattle.place.specs.declared.Prepared.{Prepared}
-use Rattle.frames.specs.Frames.{frame, frame_info, frame_of}
+use Rattle.frames.specs.Frames.{frame_info, frame_of}
 use Rattle.frames.specs.Whole.{when_named, whole_box, when_placed, when_found, whole_glyph}
-use Rattle.frames.specs.Put.{line_into, line_leaves, glyph_into, frame_into, frame_leaves}
+use Rattle.frames.specs.Put.{line_into, glyph_into, frame_into}
 use Rattle.frames.specs.declared.Printed.{Printed}
-
--- ---- the tests
-
-module _ (s : List ℕ) (rec : Record) (i : GlyphInfo) (missing : Bool) (missing-is : missing ≡ no_bitmap rec.bitmaps i.glyph.0) where
-  pub whole_12 : (r : Prepared) → missing ≡ true → r ≡ Prepared.Refused (refusal 12 0) → r ≡ whole_box s rec i
-  unfolding whole_box
-  whole_12 r e is = rw (← missing-is, e) is
-
-  module _ (has : missing ≡ false) (strange : Bool) (strange-is : strange ≡ unreadable rec.bitmaps) where
-    pub whole_13 : (r : Prepared) → strange ≡ true → r ≡ Prepared.Refused (refusal 13 0) → r ≡ whole_box s rec i
-    unfolding whole_box
-    whole_13 r e is = rw (← missing-is, has, ← strange-is, e) is
-
-    module _ (known : strange ≡ false) (short : Bool) (short-is : short ≡ rows_short s rec.bitmaps i.glyph.0 i.width i.height) where
-      pub whole_14 : (r : Prepared) → short ≡ true → r ≡ Prepared.Refused (refusal 14 0) → r ≡ whole_box s rec i
-      unfolding whole_box
-      whole_14 r e is = rw (← missing-is, has, ← strange-is, known, ← short-is, e) is
-
-      module _ (inside : short ≡ false) (named : Named) (named-is : named ≡ name_of s rec.names i.glyph.0) where
-        pub whole_named : (p : Span) → named ≡ Named.Name p → Prepared.Info i ≡ whole_box s rec i
-        unfolding whole_box
-        whole_named p e = rw (← missing-is, has, ← strange-is, known, ← short-is, inside, ← named-is, e)
-
-        pub whole_nameless : (r : Refusal) → named ≡ Named.Refused r → Prepared.Refused r ≡ whole_box s rec i
-        unfolding whole_box
-        whole_nameless r e = rw (← missing-is, has, ← strange-is, known, ← short-is, inside, ← named-is, e)
-
-module _ (s : List ℕ) (rec : Record) (code : ℕ) (found : Found) (found-is : found ≡ glyph_of s rec.codes code) where
-  pub glyph_none : (r : Refusal) → found ≡ Found.Refused r → Prepared.Refused r ≡ whole_glyph s rec code
-  unfolding whole_glyph
-  glyph_none r e = rw (← found-is, e)
-
-  module _ (g : GlyphIndex) (has : found ≡ Found.Glyph g) (placed : Prepared) (placed-is : placed ≡ info_in s rec g) where
-    pub glyph_whole : (i : GlyphInfo) (r : Prepared) → placed ≡ Prepared.Info i → r ≡ whole_box s rec i → r ≡ whole_glyph s rec code
-    unfolding whole_glyph
-    glyph_whole i r e is = rw (← found-is, has, ← placed-is, e) is
-
-    pub glyph_refused : (r : Refusal) → placed ≡ Prepared.Refused r → Prepared.Refused r ≡ whole_glyph s rec code
-    unfolding whole_glyph
-    glyph_refused r e = rw (← found-is, has, ← placed-is, e)
 
 -- ---- where there is a frame
 
@@ -118,25 +76,6 @@ module _ (s : List ℕ) (rec : Record) where
           let far = outside_whole (inr (omega (arith, ltb-true 65535 code t, range_end rec.codes))) in
           absurd (no_info_lem (refusal 9 0) i (sym far ∙ sym whole_is ∙ e)))
           (λ t. omega (arith, ltb-false 65535 code t))
-
-      pub frame_leaves_lem : (r : Printed) (old new : List ℕ) → new ≡ line_leaves (frame s rec code i) r old → new ≡ frame_leaves s rec code r old
-      unfolding frame_of
-      frame_leaves_lem r old new is = rw (← whole_is, e) is
-
--- ---- the answer
-
-module _ (s : List ℕ) (rec : Record) (code : ℕ) (fits : Bool) (whole : Prepared) (fits-is : fits ≡ record_fits (length s) rec) (ok : fits ≡ true)
-    (whole_is : whole ≡ whole_glyph s rec code) where
-  pub frame_said : (i : GlyphInfo) (r : Printed) (room : ℕ) → whole ≡ Prepared.Info i → r ≡ line_into (frame s rec code i) room → r ≡ frame_into s rec code room
-  unfolding frame_into
-  frame_said i r room e is = rw (← fits-is, ok, ← whole_is, e) is
-
-  pub frameless_said : (r : Refusal) (room : ℕ) → whole ≡ Prepared.Refused r → Printed.Refused r ≡ frame_into s rec code room
-  unfolding frame_into
-  frameless_said r room e = rw (← fits-is, ok, ← whole_is, e)
-
-pub is_fit : (s : List ℕ) (rec : Record) (fits : Bool) → fits ≡ record_fits (length s) rec → fits ≡ true → record_fits (length s) rec ≡ true
-is_fit s rec fits is ok = sym is ∙ ok
 
 -- ---- an answer that is no refusal is that of the code's line
 

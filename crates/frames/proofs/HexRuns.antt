@@ -6,7 +6,11 @@ use native.Mathlib.Numerals.{add-one}
 use native.Mathlib.Omega.{arith}
 use lib.ListN.{length, take, get_or}
 use lib.Seq.{take-suc}
+use borrow.Author.Tests.{lt-ltb, le-ltb}
 use Rattle.frames.specs.Hex.{hex_byte, hex_all, field}
+
+-- the test of a digit below ten
+pub ruleset tests = (lt-ltb, le-ltb)
 
 pub length-hex : (s : List ℕ) → length (hex_all s) ≡ 2 * length s
 unfolding hex_all
@@ -41,6 +45,8 @@ pub field_some : (s : List ℕ) → (length s ≡ 0 → ⊥) → field s ≡ hex
 unfolding field
 field_some [] h = absurd (h refl)
 field_some (b ∷ s) h = refl
+
+pub ruleset fields = (field_none, field_some)
 
 pub length-field : (s : List ℕ) → length (field s) ≡ max 1 (2 * length s)
 unfolding field

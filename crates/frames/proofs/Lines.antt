@@ -5,6 +5,7 @@ use mathlib.Core.Bool.{true}
 use mathlib.Core.List.{List, [], ◌∷◌, ◌++◌}
 use native.Mathlib.Omega.{arith}
 use lib.ListN.{length}
+use borrow.Author.Tests.{lt-ltb, le-ltb}
 use Rattle.reads.specs.Said.{refusal}
 use Rattle.tables.specs.Fits.{record_fits}
 use Rattle.tables.specs.declared.Record.{Record}
@@ -13,9 +14,11 @@ use Rattle.bitmaps.specs.Rows.{row_bytes}
 use Rattle.place.specs.declared.GlyphInfo.{GlyphInfo}
 use Rattle.frames.specs.Hex.{hex_four, field, ◌␣◌}
 use Rattle.frames.specs.Frames.{glyph_rows, frame}
-use Rattle.frames.specs.Put.{Put, line_into}
+use Rattle.frames.specs.Put.{line_into}
+use Rattle.frames.specs.Wrote.{Wrote}
+use denote.MutBor.{MutBor}
 use Rattle.frames.specs.declared.Printed.{Printed}
-use Rattle.frames.proofs.Chain.{no_room, line_put}
+use Rattle.frames.proofs.Chain.{then, no_room, line_put}
 use Rattle.frames.proofs.HexRuns.{length-field}
 use Rattle.frames.proofs.FrameLength.{length-picture, length_frame, name_in}
 
@@ -35,14 +38,14 @@ module _ (s : List ℕ) (rec : Record) (code : ℕ) (i : GlyphInfo) (name : List
     of_rows = length-picture s rec.bitmaps i;
   }
 
-  pub frame_put : (l m : List ℕ) (n : ℕ)
-      → Put l 0
+  pub frame_wrote : (l m : MutBor (List ℕ)) (at next : ℕ)
+      → Wrote l at
       (hex_four code ␣ hex_four i.glyph.0 ␣ hex_four i.width ␣ hex_four i.height ␣ hex_four i.pad_top ␣ hex_four i.pad_left
       ␣ field name ␣ field (glyph_rows s rec.bitmaps i) ++ (10 ∷ []))
-      n m
-      → Put l 0 (frame s rec code i) n m
+      m next
+      → Wrote l at (frame s rec code i) m next
   unfolding frame
-  frame_put l m n p = rw (← name-is) p
+  frame_wrote l m at next w = rw (← name-is) w
 
 -- ---- the room for it
 
@@ -64,6 +67,9 @@ module _ (s : List ℕ) (rec : Record) (code : ℕ) (i : GlyphInfo) (name : List
     pub line_room : (room : ℕ) → 32 + (a + b) ≤ room → length (frame s rec code i) ≤ room
     line_room room h = omega (arith, line_size)
 
-    pub line_said : (old new : List ℕ) (next : ℕ) → 32 + (a + b) ≤ length old → Put old 0 (frame s rec code i) next new
-        → Printed.Bytes next ≡ line_into (frame s rec code i) (length old)
-    line_said old new next h p = (line_put (line_room (length old) h) p).0
+    pub line_said : (l m : MutBor (List ℕ)) (at next n room : ℕ) → 32 + (a + b) ≤ room → at ≡ 0 → Wrote l at (frame s rec code i) m next → n ≡ next
+        → Printed.Bytes n ≡ line_into (frame s rec code i) room
+    line_said l m at next n room h start w is = line_put n (line_room room h) start w is
+
+-- what the line of a refusal needs
+pub ruleset refused = (no_room, line_put, then, lt-ltb, le-ltb)

@@ -2,12 +2,10 @@
 use mathlib.Core.Path.{◌≡◌, refl, sym, ap, ◌∙◌}
 use mathlib.Core.List.{List, [], ◌∷◌, ◌++◌, append-nil, append_assoc}
 use Prim.Native.Nat.{ℕ, zero, suc, ◌+◌, ◌*◌, ◌≤◌, ◌<◌}
-use native.Mathlib.Nat.{zero-add, add-zero, zero-mul, suc-mul, mul-le-mul, mul-le-mul_right}
+use native.Mathlib.Nat.{zero-add, add-zero, zero-mul, suc-mul, mul-le-mul_right}
 use native.Mathlib.Numerals.{add-one}
 use native.Mathlib.Omega.{arith}
 use lib.ListN.{length, length-append}
-use mir.Syntax.{w64}
-use mir.Val.{Fits}
 use Rattle.tables.specs.declared.BitmapData.{BitmapData}
 use Rattle.bitmaps.specs.Units.{order_of, row_byte}
 use Rattle.bitmaps.specs.Rows.{row_bytes}
@@ -70,17 +68,3 @@ one_more k w = rw (add-one, suc-mul k w) refl
 -- one row more has room where all rows have
 pub row_room : (k height w : ℕ) → k < height → k * w + w ≤ height * w
 row_room k height w h = let e : (k + 1) * w ≤ height * w = mul-le-mul_right w (omega arith) in omega (arith, one_more k w)
-
--- rows of 16-bit width and height are few enough for any sum of lengths
-pub rows_small : (width height : ℕ) → width < 65536 → height < 65536 → height * row_bytes width ≤ 536870912
-rows_small width height w h = mul-le-mul {n₁ = height} {m₁ = row_bytes width} {n₂ = 65536} {m₂ = 8192} (omega arith) (omega arith)
-
-module _ (width height row : ℕ) (row_is : row ≡ row_bytes width) where
-  pub size_is : height * row ≡ height * row_bytes width
-  size_is = rw row_is refl
-
-  pub size_small : width < 65536 → height < 65536 → height * row ≤ 536870912
-  size_small w h = rw row_is (rows_small width height w h)
-
-  pub size_fits : width < 65536 → height < 65536 → Fits w64 (height * row)
-  size_fits w h = omega (arith, size_small w h)

@@ -3,4 +3,5 @@ pub mod Hex
 pub mod Whole
 pub mod Frames
 pub mod Put
+pub mod Wrote
 pub mod Dump

@@ -1,13 +1,14 @@
 // The line of a placed glyph.
-ghost use Rattle.std.specs.Prelude.{◌≡◌, true, ◌≤◌, ◌<◌, length};
+ghost use Rattle.std.specs.Prelude.{◌≡◌, true, ◌+◌, ◌≤◌, ◌<◌, length};
 ghost use Rattle.tables.specs.Fits.{record_fits};
 ghost use Rattle.names.specs.Names.{name_of, name_bytes};
 ghost use Rattle.frames.specs.Frames.{frame};
-ghost use Rattle.frames.specs.Put.{Put, line_into, line_leaves};
+ghost use Rattle.frames.specs.Put.{line_into, line_leaves};
+ghost use Rattle.frames.specs.Wrote.{Wrote};
 
 use crate::Printed;
-use crate::digits::{field_size, put_field, put_one, put_three};
 use crate::glyph_rows::{put_picture, rows_size};
+use crate::line::{Line, field_size};
 use names::name_bytes;
 use place::GlyphInfo;
 use reads::{CharCode, Refusal};
@@ -15,25 +16,22 @@ use tables::Record;
 
 // The eight fields of the line, of a glyph with this name.
 #[tactic(auto, using(crate::proofs::Lines::sizes))]
-fn put_fields(
-    s: &[u8],
-    rec: Record,
-    code: CharCode,
-    i: GlyphInfo,
-    name: &[u8],
-    out: &mut [u8],
-) -> usize
+fn put_fields(s: &[u8], rec: Record, code: CharCode, i: GlyphInfo, name: &[u8], line: &mut Line<'_>)
     requires name_value { name.now ≡ name_bytes s.now (name_of s.now rec.names i.glyph.0) }
-    requires i_in_bounds { length (frame s.now rec code.0 i) ≤ length out.old }
+    requires i_in_bounds { line.old.at + length (frame s.now rec code.0 i) ≤ length line.old.out.now }
     requires code_bound { code.0 < 65536 }
-    ensures { Put out.old 0 (frame s.now rec code.0 i) result out.new }
+    ensures { Wrote line.old.out line.old.at (frame s.now rec code.0 i) line.new.out line.new.at }
 {
-    let middle = put_three(code.0 as u16, i.glyph.0, i.width, out, 0);
-    let text = put_three(i.height, i.pad_top, i.pad_left, out, middle);
-    let gap = put_field(name, out, text);
-    let rows = put_one(32, out, gap);
-    let end = put_picture(s, rec.bitmaps, i, out, rows);
-    put_one(10, out, end)
+    line.number(code.0 as u16);
+    line.number(i.glyph.0);
+    line.number(i.width);
+    line.number(i.height);
+    line.number(i.pad_top);
+    line.number(i.pad_left);
+    line.field(name);
+    line.character(b' ');
+    put_picture(s, rec.bitmaps, i, line);
+    line.character(b'\n');
 }
 
 // The line of a placed glyph, where the buffer has room for it. The length is computed before a byte
@@ -65,5 +63,7 @@ pub(crate) fn put_line(
             place: 0,
         });
     }
-    Printed::Bytes(put_fields(s, rec, code, i, name, out))
+    let mut line = Line::new(out);
+    put_fields(s, rec, code, i, name, &mut line);
+    Printed::Bytes(line.len())
 }

@@ -5,9 +5,9 @@ ghost use Rattle.bitmaps.specs.Rows.{row_bytes};
 ghost use Rattle.bitmaps.specs.Picture.{bits_of};
 ghost use Rattle.frames.specs.Hex.{hex_all, field};
 ghost use Rattle.frames.specs.Frames.{row_from, glyph_rows};
-ghost use Rattle.frames.specs.Put.{Put};
+ghost use Rattle.frames.specs.Wrote.{Wrote};
 
-use crate::digits::{put_byte, put_one};
+use crate::line::Line;
 use bitmaps::{offset_of, row_byte, row_bytes, row_stride};
 use place::GlyphInfo;
 use tables::BitmapData;
@@ -21,44 +21,38 @@ pub(crate) fn rows_size(width: u16, height: u16) -> usize
 }
 
 // The digits of the row that begins at byte `row` of the bitmap data: `count` times eight columns.
-fn put_row(s: &[u8], b: BitmapData, row: usize, count: usize, out: &mut [u8], at: usize) -> usize
-    requires { at + 2 * count ≤ length out.old }
-    ensures { Put out.old at (hex_all (row_from (bits_of s.now b) (order_of b) row 0 count)) result out.new }
+fn put_row(s: &[u8], b: BitmapData, row: usize, count: usize, line: &mut Line<'_>)
+    requires { line.old.at + 2 * count ≤ length line.old.out.now }
+    ensures { Wrote line.old.out line.old.at (hex_all (row_from (bits_of s.now b) (order_of b) row 0 count)) line.new.out line.new.at }
 {
-    let mut n = at;
-    let mut j: usize = 0;
-    while j < count {
-        n = put_byte(row_byte(s, b, row, j), out, n);
-        j += 1;
+    for j in 0..count {
+        line.byte(row_byte(s, b, row, j));
     }
-    n
 }
 
-// The digits of all rows. A row's start grows by the stride, its padding is not written.
-fn put_rows(s: &[u8], b: BitmapData, i: GlyphInfo, out: &mut [u8], at: usize) -> usize
-    requires { at + 2 * (i.height * row_bytes i.width) ≤ length out.old }
-    ensures { Put out.old at (hex_all (glyph_rows s.now b i)) result out.new }
+// The digits of all rows. A row begins a stride after the one above it, its padding is not written.
+fn put_rows(s: &[u8], b: BitmapData, i: GlyphInfo, line: &mut Line<'_>)
+    requires { line.old.at + 2 * (i.height * row_bytes i.width) ≤ length line.old.out.now }
+    ensures { Wrote line.old.out line.old.at (hex_all (glyph_rows s.now b i)) line.new.out line.new.at }
 {
     let count = row_bytes(i.width) as usize;
     let stride = row_stride(i.width, b.pad) as usize;
-    let mut row = offset_of(s, b, i.glyph) as usize;
-    let mut n = at;
-    let mut k: u16 = 0;
-    while k < i.height {
-        n = put_row(s, b, row, count, out, n);
-        row += stride;
-        k += 1;
+    let first = offset_of(s, b, i.glyph) as usize;
+    for k in 0..i.height {
+        let above = k as usize * stride;
+        put_row(s, b, first + above, count, line);
     }
-    n
 }
 
 // The field of all rows: a dash where there is no row byte.
-pub(crate) fn put_picture(s: &[u8], b: BitmapData, i: GlyphInfo, out: &mut [u8], at: usize) -> usize
-    requires { at + max 1 (2 * (i.height * row_bytes i.width)) ≤ length out.old }
-    ensures { Put out.old at (field (glyph_rows s.now b i)) result out.new }
+#[tactic(auto, using(crate::proofs::Writing::picture))]
+pub(crate) fn put_picture(s: &[u8], b: BitmapData, i: GlyphInfo, line: &mut Line<'_>)
+    requires { line.old.at + max 1 (2 * (i.height * row_bytes i.width)) ≤ length line.old.out.now }
+    ensures { Wrote line.old.out line.old.at (field (glyph_rows s.now b i)) line.new.out line.new.at }
 {
     if rows_size(i.width, i.height) == 0 {
-        return put_one(45, out, at);
+        line.character(b'-');
+    } else {
+        put_rows(s, b, i, line);
     }
-    put_rows(s, b, i, out, at)
 }

@@ -18,6 +18,7 @@ fn refused(number: u8) -> Prepared
 }
 
 // Of a placed glyph: 12, 13, 14 over all rows, 17, 18, or its box.
+#[tactic(auto, unfolding(crate::specs::Whole::whole_box))]
 fn whole_box(s: &[u8], rec: Record, i: GlyphInfo) -> Prepared
     ensures { result ≡ whole_box s.now rec i }
 {
@@ -39,6 +40,7 @@ fn whole_box(s: &[u8], rec: Record, i: GlyphInfo) -> Prepared
 }
 
 // Of a code's own glyph: 9, 10, 11, then those.
+#[tactic(auto, unfolding(crate::specs::Whole::whole_glyph))]
 pub(crate) fn whole_glyph(s: &[u8], rec: Record, code: CharCode) -> Prepared
     ensures { result ≡ whole_glyph s.now rec code.0 }
 {

@@ -1,17 +1,16 @@
 -- What stands ahead in lines whose digits come in pairs: a newline, or two digits, which are the next byte.
 use Prim.Native.Nat.{ℕ, ◌+◌, ◌*◌, ◌%◌, ◌≤◌, ◌<◌}
-use native.Mathlib.Nat.{add-zero, zero-add}
+use native.Mathlib.Nat.{zero-add}
 use native.Mathlib.Numerals.{add-one}
 use native.Mathlib.Omega.{arith}
-use mathlib.Core.Path.{◌≡◌, refl, ap, ◌∙◌}
-use mathlib.Core.Bool.{true, ◌&&◌}
+use mathlib.Core.Path.{◌≡◌, refl, sym, ap, ◌∙◌}
+use mathlib.Core.Bool.{true, false, ◌&&◌}
 use mathlib.Core.List.{List, [], ◌∷◌, ◌++◌}
-use lib.ListN.{length, drop, get_or, set, length-drop, length-set, drop_of_length-le}
-use lib.Seq.{drop-drop, get_or-drop, sets, sets-eq}
-use mir.Syntax.{w8}
-use mir.Val.{Fits}
+use lib.ListN.{length, drop, get_or, set, length-set, drop_of_length-le}
+use lib.Seq.{sets, sets-eq}
 use lib.Dec.{ltb, eqb}
-use borrow.Author.Tests.{ltb-true, eq-eqb, ne_eqb}
+use borrow.Author.Tests.{ltb-true, eq-eqb, eqb-true, ne_eqb}
+use Rattle.std.specs.Prelude.{Option, Some, None}
 use Rattle.reads.proofs.Tests.{split, both}
 use Rattle.hexline.specs.Lines.{Lines, in_front, lines_of, digit_of, all_digits, pairs, all_pairs, hex_bytes, hex_read}
 use Rattle.hexline.specs.Fill.{hex_leaves}
@@ -65,72 +64,111 @@ pair_ahead a (b ∷ cs) h p =
     (λ t. let x = two_pairs a b (lines_of cs).ended (lines_of cs).rest (rw (f, t) at p.lines) (rw (f, t) at p.ended) in
     (omega arith, record { high = x.0; low = x.1; byte = rw (f, t) x.2; later = record { lines = x.3; ended = x.4 } }))
 
--- where the filling of a buffer stands, at place i of the text and with `at` bytes put: what is left puts the rest
-pub record Filling (s old new : List ℕ) (at i : ℕ) : Type 0 where
-  pub inside : i ≤ length s
+-- where the filling of a buffer stands, with `at` bytes put: what is left of the text puts the rest
+pub record Filling (s old new : List ℕ) (at : ℕ) (t : List ℕ) : Type 0 where
   pub kept : length new ≡ length old
-  pub room : at + length (hex_bytes (drop i s)) ≤ length old
-  pub ahead : Paired (drop i s)
-  pub puts : sets new at (hex_bytes (drop i s)) ≡ sets old 0 (hex_bytes s)
+  pub room : at + length (hex_bytes t) ≤ length old
+  pub ahead : Paired t
+  pub puts : sets new at (hex_bytes t) ≡ sets old 0 (hex_bytes s)
 
 sets_front : (l vs : List ℕ) → length vs ≤ length l → sets l 0 vs ≡ vs ++ drop (length vs) l
 sets_front l vs h = sets-eq vs l 0 (rw (zero-add (length vs)) h) ∙ rw (zero-add (length vs))
 
 module _ (s old : List ℕ) (read : hex_read s ≡ HexRead.Bytes (length (hex_bytes s))) (room : length (hex_bytes s) ≤ length old) where
-  pub filling_first : Filling s old old 0 0
+  pub filling_first : Filling s old old 0 s
   filling_first =
       let w = whole_text_lem s (length (hex_bytes s)) read in
-      record { inside = omega arith; kept = refl; room = omega arith; ahead = record { lines = good_pairs (lines_of s).ended w.good; ended = w.ended }; puts = refl }
+      record { kept = refl; room = omega arith; ahead = record { lines = good_pairs (lines_of s).ended w.good; ended = w.ended }; puts = refl }
 
-  pub filling_done : (new : List ℕ) (at i : ℕ) → Filling s old new at i → length s ≤ i → new ≡ hex_leaves s (hex_read s) old
+  pub filling_done : (new : List ℕ) (at : ℕ) → Filling s old new at [] → new ≡ hex_leaves s (hex_read s) old
   unfolding lines_of hex_bytes all_pairs
-  filling_done new at i now h =
-      let none : hex_bytes (drop i s) ≡ [] = rw (drop_of_length-le s h) in
-      rw read ((rw none at now.puts) ∙ sets_front old (hex_bytes s) room)
+  filling_done new at now = rw read (now.puts ∙ sets_front old (hex_bytes s) room)
 
-module _ (s old new : List ℕ) (at i : ℕ) (now : Filling s old new at i) (h : i < length s) where
-  pub filling_newline : get_or s i 0 ≡ 10 → Filling s old new at (i + 1)
+-- the next character of what is left is a newline, or the first digit of a byte
+module _ (s old new : List ℕ) (at a : ℕ) (t : List ℕ) (now : Filling s old new at (a ∷ t)) where
+  newline_passed : a ≡ 10 → Filling s old new at t
   unfolding lines_of hex_bytes all_pairs pairs
-  filling_newline e =
-      let t = eq-eqb (get_or s i 0) 10 e in
-      let q = rw (next_character s i h) at now.ahead in
-      let same : hex_bytes (drop i s) ≡ hex_bytes (drop (i + 1) s) = ap hex_bytes (next_character s i h) ∙ rw t in
-      record {
-        inside = omega arith;
-        kept = now.kept;
-        room = rw (← same) now.room;
-        ahead = record { lines = (rw t at q.lines).2; ended = rw t at q.ended };
-        puts = rw (← same) now.puts;
-      }
+  newline_passed e =
+      let f : Filling s old new at (10 ∷ t) = rw e at now in
+      record { kept = f.kept; room = f.room; ahead = record { lines = f.ahead.lines.2; ended = f.ahead.ended }; puts = f.puts }
 
-  module _ (other : get_or s i 0 ≡ 10 → ⊥) where
-    pair : (i + 1 < length s) × Pair (drop i s) (get_or s i 0) (get_or s (i + 1) 0) (drop (i + 2) s)
-    pair =
-        let x = pair_ahead (get_or s i 0) (drop (i + 1) s) other (rw (next_character s i h) at now.ahead) in
-        let next : get_or (drop (i + 1) s) 0 0 ≡ get_or s (i + 1) 0 = get_or-drop (i + 1) s 0 0 ∙ rw (add-zero (i + 1)) in
-        let two : i + 1 + 1 ≡ i + 2 = omega arith in
-        let rest : drop 1 (drop (i + 1) s) ≡ drop (i + 2) s = drop-drop 1 (i + 1) s ∙ rw two in
-        (omega (arith, x.0, length-drop (i + 1) s), rw (next_character s i h, ← next, ← rest) x.1)
+  module _ (other : a ≡ 10 → ⊥) where
+    pair : (0 < length t) × Pair (a ∷ t) a (get_or t 0 0) (drop 1 t)
+    pair = pair_ahead a t other now.ahead
 
-    pub second_inside : i + 1 < length s
-    second_inside = pair.0
-
-    pub byte_inside : at < length new
+    byte_inside : at < length new
     byte_inside = omega (arith, ap length pair.1.byte, now.room, now.kept)
 
-    module _ (high low : ℕ) (high_is : high ≡ digit_of (get_or s i 0)) (low-is : low ≡ digit_of (get_or s (i + 1) 0)) where
-      pub high_fits : Fits w8 (high * 16)
-      high_fits = omega (arith, pair.1.high)
+    byte_passed : Filling s old (set new at (digit_of a * 16 + digit_of (get_or t 0 0))) (at + 1) (drop 1 t)
+    byte_passed =
+        record {
+          kept = rw length-set now.kept;
+          room = omega (arith, ap length pair.1.byte, now.room);
+          ahead = pair.1.later;
+          puts = rw (add-one at) (rw pair.1.byte at now.puts);
+        }
 
-      pub byte_fits : Fits w8 (high * 16 + low)
-      byte_fits = omega (arith, pair.1.high, pair.1.low)
+digit_other : (c : ℕ) → digit_of c < 16 → c ≡ 10 → ⊥
+unfolding digit_of
+digit_other c h e = let z : digit_of 10 < 16 = rw e at h in absurd (omega (arith, z))
 
-      pub filling_byte : Filling s old (set new at (high * 16 + low)) (at + 1) (i + 2)
-      filling_byte =
-          record {
-            inside = omega (arith, pair.0);
-            kept = rw length-set now.kept;
-            room = omega (arith, ap length pair.1.byte, now.room);
-            ahead = pair.1.later;
-            puts = rw (add-one at, high_is, low-is) (rw pair.1.byte at now.puts);
-          }
+-- a byte's first digit, which was read and not yet put, with the character that it is the value of
+pub record First (s old new : List ℕ) (at h a : ℕ) (t : List ℕ) : Type 0 where
+  pub other : a ≡ 10 → ⊥
+  pub is : h ≡ digit_of a
+  pub filling : Filling s old new at (a ∷ t)
+
+-- where the filling stands between two characters, by the first digit of the next byte if it was read
+abbrev pub Between : List ℕ → List ℕ → List ℕ → ℕ → Option ℕ → List ℕ → Type 0
+Between s old new at None t = Filling s old new at t
+Between s old new at (Some h) t = (a : ℕ) × First s old new at h a t
+
+module _ (s old new : List ℕ) (at : ℕ) where
+  -- at the end no digit is left over
+  pub between_done : (high : Option ℕ) (i : ℕ) → Between s old new at high (drop i s) → length s ≤ i → Filling s old new at []
+  between_done None i now h = rw (drop_of_length-le s h) at now
+  between_done (Some x) i (a, f) h =
+      let g : Filling s old new at (a ∷ []) = rw (drop_of_length-le s h) at f.filling in
+      absurd (omega (arith, (pair s old new at a [] g f.other).0))
+
+  module _ (i : ℕ) (h : i < length s) where
+    -- what is no digit is a newline
+    pub newline_next : (high : Option ℕ) → Between s old new at high (drop i s) → 16 ≤ digit_of (get_or s i 0) → Between s old new at high (drop (i + 1) s)
+    newline_next None now w =
+        let f : Filling s old new at (get_or s i 0 ∷ drop (i + 1) s) = rw (next_character s i h) at now in
+        split (eqb (get_or s i 0) 10)
+        (λ t. newline_passed s old new at (get_or s i 0) (drop (i + 1) s) f (eqb-true (get_or s i 0) 10 t))
+        (λ t. absurd (omega (arith, w, (pair s old new at (get_or s i 0) (drop (i + 1) s) f (λ e. not_newline t e)).1.high)))
+      where
+        not_newline : eqb (get_or s i 0) 10 ≡ false → get_or s i 0 ≡ 10 → ⊥
+        not_newline t e = let z : true ≡ false = sym (eq-eqb (get_or s i 0) 10 e) ∙ t in cc
+    newline_next (Some x) (a, f) w =
+        let g : Filling s old new at (a ∷ get_or s i 0 ∷ drop (i + 1) s) = rw (next_character s i h) at f.filling in
+        absurd (omega (arith, w, (pair s old new at a (get_or s i 0 ∷ drop (i + 1) s) g f.other).1.low))
+
+    module _ (high : Option ℕ) (now : Between s old new at high (drop i s)) (digit : ℕ) (digit-is : digit ≡ digit_of (get_or s i 0)) where
+      pub first_next : high ≡ None → digit < 16 → Between s old new at (Some digit) (drop (i + 1) s)
+      first_next e small =
+          let f : Filling s old new at (get_or s i 0 ∷ drop (i + 1) s) = rw (e, next_character s i h) at now in
+          (get_or s i 0, record { other = digit_other (get_or s i 0) (omega (arith, small, digit-is)); is = digit-is; filling = f })
+
+      module _ (first : ℕ) (e : high ≡ Some first) where
+        read : (a : ℕ) × First s old new at first a (drop i s)
+        read = rw e at now
+
+        whole : Filling s old new at (read.0 ∷ get_or s i 0 ∷ drop (i + 1) s)
+        whole = rw (next_character s i h) at read.1.filling
+
+        pub first_small : first < 16
+        first_small = omega (arith, read.1.is, (pair s old new at read.0 (get_or s i 0 ∷ drop (i + 1) s) whole read.1.other).1.high)
+
+        pub second_inside : at < length new
+        second_inside = byte_inside s old new at read.0 (get_or s i 0 ∷ drop (i + 1) s) whole read.1.other
+
+        pub second_next : Between s old (set new at (first * 16 + digit)) (at + 1) None (drop (i + 1) s)
+        second_next =
+            let byte : first * 16 + digit ≡ digit_of read.0 * 16 + digit_of (get_or s i 0) = omega (arith, read.1.is, digit-is) in
+            rw byte (byte_passed s old new at read.0 (get_or s i 0 ∷ drop (i + 1) s) whole read.1.other)
+
+-- what the loop that puts the bytes needs
+pub ruleset turns = (filling_done, between_done, newline_next, first_small, second_inside)

@@ -1,5 +1,5 @@
 -- What a buffer holds after the bytes were put into it: for the code that puts them, and for a caller that lends the first n of them on.
-use Prim.Native.Nat.{ℕ, ◌≤◌, ◌<◌}
+use Prim.Native.Nat.{ℕ, ◌≤◌}
 use native.Mathlib.Omega.{arith}
 use mathlib.Core.Path.{◌≡◌, sym, ap, ◌∙◌}
 use mathlib.Core.List.{List, ◌++◌}
@@ -7,8 +7,6 @@ use lib.ListN.{length, take, drop, length-append}
 use lib.Seq.{take_at}
 use lib.Dec.{ltb}
 use borrow.Author.Tests.{lt-ltb, le-ltb, ltb-false}
-use Rattle.reads.specs.Said.{refusal}
-use Rattle.reads.specs.declared.Refusal.{Refusal}
 use Rattle.reads.proofs.Tests.{never, split}
 use Rattle.hexline.specs.Lines.{hex_read, hex_bytes}
 use Rattle.hexline.specs.Fill.{fitted, hex_into, hex_leaves}
@@ -55,28 +53,12 @@ room_enough text room h =
     (λ n e. rw (e, le-ltb room n (omega (arith, h, bytes_most text n e))))
     (λ q e. rw e)
 
--- ---- the answer and the buffer, by what was read
+-- what putting the bytes asks for, of a text that was read
+module _ (text : List ℕ) (read : HexRead) (read_is : read ≡ hex_read text) (n : ℕ) (e : read ≡ HexRead.Bytes n) where
+  pub fills_read : hex_read text ≡ HexRead.Bytes (length (hex_bytes text))
+  fills_read = let r = sym read_is ∙ e in r ∙ ap HexRead.Bytes (sym (bytes_count text n r))
 
-module _ (text old : List ℕ) (read : HexRead) (read_is : read ≡ hex_read text) where
-  pub not_read : (q : Refusal) → read ≡ HexRead.Refused q → HexRead.Refused q ≡ hex_into text (length old)
-  unfolding hex_into
-  not_read q e = rw (← read_is, e)
+  pub fills_room : (room : ℕ) → n ≤ room → length (hex_bytes text) ≤ room
+  fills_room room h = omega (arith, bytes_count text n (sym read_is ∙ e))
 
-  module _ (n : ℕ) (e : read ≡ HexRead.Bytes n) where
-    pub no_room : length old < n → HexRead.Refused (refusal 15 0) ≡ hex_into text (length old)
-    unfolding hex_into
-    no_room h = rw (← read_is, e, lt-ltb _ _ h)
-
-    pub fills_read : hex_read text ≡ HexRead.Bytes (length (hex_bytes text))
-    fills_read = let r = sym read_is ∙ e in r ∙ ap HexRead.Bytes (sym (bytes_count text n r))
-
-    module _ (h : n ≤ length old) where
-      pub fills_room : length (hex_bytes text) ≤ length old
-      fills_room = omega (arith, bytes_count text n (sym read_is ∙ e))
-
-      pub fills_into : HexRead.Bytes n ≡ hex_into text (length old)
-      unfolding hex_into
-      fills_into = rw (← read_is, e, le-ltb _ _ h)
-
-    pub fills_leaves : (new : List ℕ) → new ≡ hex_leaves text (hex_read text) old → new ≡ hex_leaves text (HexRead.Bytes n) old
-    fills_leaves new is = rw (sym read_is ∙ e) at is
+pub ruleset answers = (fills_read, fills_room, lt-ltb, le-ltb)

@@ -1,11 +1,13 @@
 -- The lines character by character: what is left of a text says the same after its next character, or that character makes its line
 -- bad. A line is known by how many of its digits were read, so that no character is looked at twice.
-use Prim.Native.Nat.{ℕ, suc, ◌+◌, ◌-◌, ◌/◌, ◌%◌, ◌≤◌, ◌<◌}
+use Prim.Native.Nat.{ℕ, suc, ◌+◌, ◌/◌, ◌%◌, ◌≤◌, ◌<◌}
 use native.Mathlib.Nat.{add-zero, zero-add}
 use native.Mathlib.Numerals.{add-one}
 use native.Mathlib.Omega.{arith}
 use mathlib.Core.Path.{◌≡◌, refl, sym, ap, ◌∙◌}
-use mathlib.Core.Bool.{Bool, cond, ◌&&◌, and-true, and-false}
+use Rattle.std.specs.Prelude.{Option, Some, None, MatchOption}
+use Rattle.std.specs.Option.{is_some}
+use mathlib.Core.Bool.{true, false, Bool, cond, ◌&&◌, and-true, and-false}
 use mathlib.Core.List.{List, [], ◌∷◌}
 use lib.ListN.{length, drop, get_or, drop_of_length-le}
 use lib.Seq.{drop-cons}
@@ -16,29 +18,20 @@ use Rattle.reads.proofs.Tests.{either}
 use Rattle.hexline.specs.Lines.{in_front, lines_of, digit_of, all_digits, good_line, is_empty, bad_line, bytes_from, hex_read}
 use Rattle.hexline.specs.declared.HexRead.{HexRead}
 
--- ---- a character's value as a digit
+-- the tests of a digit
+pub ruleset tests = (lt-ltb, le-ltb, lt-leb, le-leb)
 
-module _ (c : ℕ) where
-  pub before_digits : c < 48 → 16 ≡ digit_of c
-  unfolding digit_of
-  before_digits h = simp (lt-leb _ _ h, lt-leb 65 c (omega arith))
+-- what `digit_of` answered, as its value
+abbrev Told : ℕ → Option ℕ → Type 0
+Told c r = MatchOption r (16 ≤ digit_of c) (λ d. (d ≡ digit_of c) × (d < 16))
 
-  pub digit : 48 ≤ c → c ≤ 57 → c - 48 ≡ digit_of c
-  unfolding digit_of
-  digit l h = simp (le-leb _ _ l, le-leb _ _ h)
+pub none_told : (c : ℕ) (r : Option ℕ) → Told c r → is_some r ≡ false → 16 ≤ digit_of c
+none_told c None told e = told
+none_told c (Some d) told e = cc
 
-  module _ (l : 48 ≤ c) (m : 57 < c) where
-    pub before_letters : c < 65 → 16 ≡ digit_of c
-    unfolding digit_of
-    before_letters h = simp (le-leb _ _ l, lt-leb _ _ m, lt-leb _ _ h)
-
-    pub letter : 65 ≤ c → c ≤ 70 → c - 55 ≡ digit_of c
-    unfolding digit_of
-    letter n h = simp (le-leb _ _ l, lt-leb _ _ m, le-leb _ _ n, le-leb _ _ h)
-
-    pub after_letters : 70 < c → 16 ≡ digit_of c
-    unfolding digit_of
-    after_letters h = simp (le-leb _ _ l, lt-leb _ _ m, le-leb 65 c (omega arith), lt-leb _ _ h)
+pub some_told : (c : ℕ) (r : Option ℕ) → Told c r → is_some r ≡ true → digit_of c < 16
+some_told c None told e = cc
+some_told c (Some d) told e = omega (arith, told.0, told.1)
 
 -- ---- a line of which some digits were read
 
@@ -156,23 +149,22 @@ module _ (s : List ℕ) (line n d i : ℕ) (now : Reading s line n d i) where
           let later = lines_of (drop (i + 1) s) in
           is ∙ sym (elsewhere ∙ front_long (get_or s i 0) line n d g later.ended later.rest)
 
-      module _ (digit : ℕ) (digit-is : digit ≡ digit_of (get_or s i 0)) where
-        -- "upper-case hexadecimal digits"
-        pub no_digit : (r : HexRead) → 16 ≤ digit → r ≡ bad_line line → r ≡ hex_read s
-        no_digit r g is =
-            let later = lines_of (drop (i + 1) s) in
-            is ∙ sym (elsewhere ∙ front_strange (get_or s i 0) line n d (omega arith) later.ended later.rest)
+      -- "upper-case hexadecimal digits"
+      pub no_digit : (r : HexRead) → 16 ≤ digit_of (get_or s i 0) → r ≡ bad_line line → r ≡ hex_read s
+      no_digit r g is =
+          let later = lines_of (drop (i + 1) s) in
+          is ∙ sym (elsewhere ∙ front_strange (get_or s i 0) line n d g later.ended later.rest)
 
-        pub next_digit : digit < 16 → d < 64 → Reading s line n (d + 1) (i + 1)
-        next_digit g few =
-            let later = lines_of (drop (i + 1) s) in
-            record {
-              inside = omega arith;
-              lines = now.lines;
-              bytes = now.bytes;
-              digits = omega arith;
-              says = sym (elsewhere ∙ front_digit (get_or s i 0) line n d (omega arith) later.ended later.rest);
-            }
+      pub next_digit : digit_of (get_or s i 0) < 16 → d < 64 → Reading s line n (d + 1) (i + 1)
+      next_digit g few =
+          let later = lines_of (drop (i + 1) s) in
+          record {
+            inside = omega arith;
+            lines = now.lines;
+            bytes = now.bytes;
+            digits = omega arith;
+            says = sym (elsewhere ∙ front_digit (get_or s i 0) line n d g later.ended later.rest);
+          }
 
   -- "each ended by a newline": the text's end
   module _ (h : length s ≤ i) where
@@ -183,3 +175,5 @@ module _ (s : List ℕ) (line n d i : ℕ) (now : Reading s line n d i) where
     pub unended : (r : HexRead) → (d ≡ 0 → ⊥) → r ≡ bad_line line → r ≡ hex_read s
     unfolding lines_of line_on
     unended r e is = is ∙ (rw (drop_of_length-le s h, ne_eqb d 0 e)) ∙ now.says
+
+pub ruleset turns = (none_told, some_told, first_line, too_short, odd, too_many, next_line, no_digit, too_long, next_digit, whole, unended)

@@ -7,19 +7,16 @@ use load::Loaded;
 use lookup::Served;
 use modes::plain;
 use reads::CharCode;
+use std::io::Result;
 use text::{TextDrawn, Wrap};
 
 // Whether the bytes are a font that has a zero.
 fn has_zero(file: &[u8]) -> bool {
-    let loaded = load::load_pcf(file);
-    match loaded {
-        Loaded::Font(rec) => {
-            let found = lookup::get_glyph(file, rec, plain(), CharCode(0x30));
-            match found {
-                Served::Glyph(_, _) => true,
-                Served::Refused(_) => false,
-            }
-        }
+    match load::load_pcf(file) {
+        Loaded::Font(rec) => match lookup::get_glyph(file, rec, plain(), CharCode(0x30)) {
+            Served::Glyph(_, _) => true,
+            Served::Refused(_) => false,
+        },
         Loaded::Refused(_) => false,
     }
 }
@@ -46,31 +43,28 @@ fn uncut(file: &[u8], text: &[u8], panel: &mut [u32]) -> bool {
     }
 }
 
-fn say(what: &[u8], yes: bool) {
-    io::write_all(1, what);
-    if yes {
-        io::write_all(1, b"yes\n");
-        return;
-    }
-    io::write_all(1, b"no\n");
+fn yes_or_no(yes: bool) -> &'static str {
+    if yes { "yes" } else { "no" }
 }
 
-fn asked(file: &[u8]) {
+fn asked(rt: &impl Print, file: &[u8]) -> Result<()> {
+    let text = b"12 345 kWh";
     let mut high = [0u32; 5760];
     let mut low = [0u32; 2880];
-    say(b"has a zero: ", has_zero(file));
-    say(
-        b"to be copied from 24 rows: ",
-        uncut(file, b"12 345 kWh", &mut high),
-    );
-    say(
-        b"to be copied from 12 rows: ",
-        uncut(file, b"12 345 kWh", &mut low),
-    );
+    println!(rt; "has a zero: {}", yes_or_no(has_zero(file)))?;
+    println!(rt;
+        "to be copied from 24 rows: {}",
+        yes_or_no(uncut(file, text, &mut high))
+    )?;
+    println!(rt;
+        "to be copied from 12 rows: {}",
+        yes_or_no(uncut(file, text, &mut low))
+    )
 }
 
-fn main() {
+// Arrays, as a meter has no heap. A write that fails is not told.
+fn main(rt: HostRuntime) {
     let mut file = [0u8; 4096];
     let n = io::read_full(0, &mut file);
-    asked(&file[..n]);
+    let _ = asked(&rt, &file[..n]);
 }

@@ -1,24 +1,19 @@
 // A page that is asked for. It begins with seven numbers of four bytes, the least significant first: the lengths of
 // its title and its text, how many pixels its buffer has, the stride, where lines wrap (nowhere, if every bit is
 // set), the scale, and the value that each pixel has before. The title and the text follow.
-use crate::quoted::quoted;
-use console::{number, say, say_with};
-use names::{Span, part_of};
+ghost use Rattle.std.specs.Prelude.{◌≡◌, ◌≤◌, ◌-◌, length};
+
+use crate::quoted::Quoted;
 use reads::u32_at;
+use std::io;
 use text::Wrap;
 
-pub(crate) const HEAD: usize = 28;
-
-pub(crate) fn title_size(pages: &[u8], at: usize) -> u32 {
-    u32_at(pages, at, 0, false)
-}
-
-pub(crate) fn text_size(pages: &[u8], at: usize) -> u32 {
-    u32_at(pages, at, 4, false)
-}
+const HEAD: usize = 28;
 
 #[derive(Clone, Copy)]
-pub(crate) struct Asked {
+pub(crate) struct Asked<'a> {
+    pub(crate) title: &'a [u8],
+    pub(crate) text: &'a [u8],
     pub(crate) len: usize,
     pub(crate) stride: usize,
     pub(crate) wrap: Wrap,
@@ -26,52 +21,53 @@ pub(crate) struct Asked {
     pub(crate) old: u32,
 }
 
+// The first bytes, so many if there are, and the rest.
+pub(crate) fn cut(bytes: &[u8], len: usize) -> (&[u8], &[u8])
+    ensures { length result.1.now ≡ length bytes.now - len }
+{
+    bytes.split_at(len.min(bytes.len()))
+}
+
 fn wrap_of(n: u32) -> Wrap {
-    if n == 4294967295 {
-        return Wrap::Never;
-    }
-    Wrap::At(n as u64)
-}
-
-pub(crate) fn asked_of(page: &[u8]) -> Asked {
-    Asked {
-        len: u32_at(page, 8, 0, false) as usize,
-        stride: u32_at(page, 12, 0, false) as usize,
-        wrap: wrap_of(u32_at(page, 16, 0, false)),
-        scale: u32_at(page, 20, 0, false) as usize,
-        old: u32_at(page, 24, 0, false),
+    if n == u32::MAX {
+        Wrap::Never
+    } else {
+        Wrap::At(u64::from(n))
     }
 }
 
-fn title_of(page: &[u8]) -> &[u8] {
-    let len = title_size(page, 0) as usize;
-    part_of(page, Span { start: HEAD, len })
+// The first page of these, and those behind it.
+pub(crate) fn first_page(pages: &[u8]) -> (Asked<'_>, &[u8])
+    ensures { length result.1.now ≤ length pages.now - 28 }
+{
+    let (head, body) = cut(pages, HEAD);
+    let (title, body) = cut(body, u32_at(head, 0, 0, false) as usize);
+    let (text, behind) = cut(body, u32_at(head, 4, 0, false) as usize);
+    let asked = Asked {
+        title,
+        text,
+        len: u32_at(head, 8, 0, false) as usize,
+        stride: u32_at(head, 12, 0, false) as usize,
+        wrap: wrap_of(u32_at(head, 16, 0, false)),
+        scale: u32_at(head, 20, 0, false) as usize,
+        old: u32_at(head, 24, 0, false),
+    };
+    (asked, behind)
 }
 
-pub(crate) fn text_of(page: &[u8]) -> &[u8] {
-    let start = HEAD + title_size(page, 0) as usize;
-    let len = text_size(page, 0) as usize;
-    part_of(page, Span { start, len })
-}
-
-fn wrap_words(wrap: Wrap) {
-    match wrap {
-        Wrap::At(w) => number(b", wrap at ", w as usize),
-        Wrap::Never => say(b", no wrap"),
+impl Asked<'_> {
+    pub(crate) fn print(self, rt: &impl Print) -> io::Result<()> {
+        rt.write_all(self.title)?;
+        print!(rt;
+            ": text {}, stride {}, pixels {}",
+            Quoted(self.text),
+            self.stride,
+            self.len
+        )?;
+        match self.wrap {
+            Wrap::At(w) => print!(rt; ", wrap at {w}")?,
+            Wrap::Never => print!(rt; ", no wrap")?,
+        }
+        println!(rt; ", scale {}", self.scale)
     }
-}
-
-fn size_words(asked: Asked) {
-    let wrap = asked.wrap;
-    say_with(b", stride #, pixels #", &[asked.stride, asked.len]);
-    wrap_words(wrap);
-    number(b", scale ", asked.scale);
-    say(b"\n");
-}
-
-pub(crate) fn asked_words(page: &[u8], asked: Asked) {
-    say(title_of(page));
-    say(b": text ");
-    quoted(text_of(page));
-    size_words(asked);
 }

@@ -7,47 +7,36 @@ mod asked;
 mod drawn;
 mod quoted;
 
-use crate::asked::{HEAD, text_size, title_size};
-use crate::drawn::page;
-use console::refusal;
-use names::{Span, part_of};
+use crate::asked::{cut, first_page};
+use crate::drawn::draw_page;
+use console::Refused;
 use reads::u32_at;
+use std::io::Result;
 use tables::Record;
 use vet::Vetted;
 
-fn all_pages(font: &[u8], rec: Record, pages: &[u8]) {
-    let mut at = 0;
-    while at < pages.len() {
-        page(font, rec, &pages[at..]);
-        at = at + HEAD + title_size(pages, at) as usize + text_size(pages, at) as usize;
+fn all_pages(rt: &impl Print, font: &[u8], rec: Record, pages: &[u8]) -> Result<()> {
+    let mut left = pages;
+    while !left.is_empty() {
+        let (asked, behind) = first_page(left);
+        draw_page(rt, font, rec, asked)?;
+        left = behind;
     }
+    Ok(())
 }
 
-fn with_font(font: &[u8], pages: &[u8]) {
+fn with_input(rt: &impl Print, input: &[u8]) -> Result<()> {
+    let (head, body) = cut(input, 4);
+    let (font, pages) = cut(body, u32_at(head, 0, 0, false) as usize);
     match vet::vet(font) {
-        Vetted::Passed(rec) => all_pages(font, rec, pages),
-        Vetted::Refused(r) => refusal(r),
+        Vetted::Passed(rec) => all_pages(rt, font, rec, pages),
+        Vetted::Refused(r) => print!(rt; "{}", Refused(r)),
     }
 }
 
-fn main() {
-    let mut room = io::buffer();
+// A read that fails ends the input, and a write that fails ends the pages and is not told.
+fn main(rt: HostRuntime) {
+    let mut room = [0u8; 4096];
     let n = io::read_full(0, &mut room);
-    let input = &room[..n];
-    let size = u32_at(input, 0, 0, false) as usize;
-    let font = part_of(
-        input,
-        Span {
-            start: 4,
-            len: size,
-        },
-    );
-    let pages = part_of(
-        input,
-        Span {
-            start: 4 + size,
-            len: n,
-        },
-    );
-    with_font(font, pages);
+    let _ = with_input(&rt, &room[..n]);
 }

@@ -1,30 +1,21 @@
 // A text as it would stand in the source.
-use console::say;
+use std::fmt;
+
+#[derive(Drop)]
+pub(crate) struct Quoted<'a>(pub(crate) &'a [u8]);
 
 // A byte of it: \n, \r, itself, or \xc3.
-fn character(c: u8) {
-    if c == 10 {
-        say(b"\\n");
-        return;
+impl fmt::Display for Quoted<'_> {
+    fn fmt<W: fmt::Write>(&self, f: &mut fmt::Formatter<W>) -> fmt::Result {
+        write!(f, "\"")?;
+        for c in self.0 {
+            match *c {
+                b'\n' => write!(f, "\\n")?,
+                b'\r' => write!(f, "\\r")?,
+                c if c.is_ascii() => write!(f, "{}", char::from(c))?,
+                c => write!(f, "\\x{c:02x}")?,
+            }
+        }
+        write!(f, "\"")
     }
-    if c == 13 {
-        say(b"\\r");
-        return;
-    }
-    if c < 128 {
-        say(&[c]);
-        return;
-    }
-    say(b"\\x");
-    io::print_hex(1, c as u64, 2);
-}
-
-pub(crate) fn quoted(text: &[u8]) {
-    let mut i = 0;
-    say(b"\"");
-    while i < text.len() {
-        character(text[i]);
-        i += 1;
-    }
-    say(b"\"");
 }

@@ -4,145 +4,87 @@
 
 mod asked;
 mod blocks;
-mod lines;
 mod picture;
 mod served;
 
 ghost use Rattle.std.specs.Prelude.{◌≡◌, ◌≤◌, length};
 ghost use Rattle.panel.specs.Asked.{Sized};
 
-use crate::asked::{Asked, HEAD, PICTURE, Request, asked_of};
-use crate::blocks::print_blocks;
-use crate::picture::print_picture;
-use crate::served::print_served;
-use console::{refusal_of, say, say_with};
-use modes::mode_of;
-use reads::Refusal;
-use tables::{EncodingData, Record};
+use crate::asked::{HEAD, Kind, Request, asked_of};
+use crate::blocks::push_blocks;
+use crate::picture::push_picture;
+use crate::served::push_served;
+use console::{Trouble, input, print_answer};
+use std::alloc::{AllocError, Global};
+use std::io;
+use tables::EncodingData;
 use text::{TextDrawn, TextRows, draw_string};
 use vet::Vetted;
 
-// 65,536 bytes of a text, which is one more than the library takes, and 573,440 of a font.
-const MOST: usize = 32 + 65536 + 573440;
-
-const ROOM: usize = MOST + 1;
-
-const PIXELS: usize = 65536;
+// A byte more than those that are asked with, 65,536 of a text, which is one more than the library takes, and 573,440
+// of a font.
+const LIMIT: usize = HEAD + 65536 + 573440 + 1;
 
 const COLOUR: u32 = 1;
 
-// What came of a request: the text's rows and the font's codes, or a refusal of the font or the text.
-#[derive(Clone, Copy)]
-enum Shown {
-    Done(TextRows, EncodingData),
-    Font(Refusal),
-    Text(Refusal),
-}
-
-// The panel's pixels, all of them 0, are coloured.
-fn text_shown(r: Request, rec: Record, text: &[u8], font: &[u8], panel: &mut [u32]) -> Shown {
-    let wrap = r.wrap;
+// The text's rows and the font's codes. The panel's pixels, all of them 0, are coloured.
+fn drawn(
+    r: Request,
+    text: &[u8],
+    font: &[u8],
+    panel: &mut [u32],
+) -> Result<(TextRows, EncodingData), Trouble>
+    ensures { length panel.new ≡ length panel.old }
+{
+    let rec = match vet::vet(font) {
+        Vetted::Passed(rec) => rec,
+        Vetted::Refused(no) => return Err(Trouble::Font(no)),
+    };
     let codes = rec.codes;
-    let drawn = draw_string(
-        font,
-        rec,
-        mode_of(r.mode),
-        text,
-        panel,
-        0,
-        wrap,
-        r.width,
-        r.scale,
-        COLOUR,
-    );
-    match drawn {
-        TextDrawn::Done(rows) => Shown::Done(rows, codes),
-        TextDrawn::Refused(no) => Shown::Text(no),
+    match draw_string(
+        font, rec, r.mode, text, panel, 0, r.wrap, r.width, r.scale, COLOUR,
+    ) {
+        TextDrawn::Done(rows) => Ok((rows, codes)),
+        TextDrawn::Refused(no) => Err(Trouble::Text(no)),
     }
 }
 
-fn font_shown(r: Request, text: &[u8], font: &[u8], panel: &mut [u32]) -> Shown {
-    match vet::vet(font) {
-        Vetted::Passed(rec) => text_shown(r, rec, text, font, panel),
-        Vetted::Refused(no) => Shown::Font(no),
-    }
-}
-
-// The panel; after half blocks, what the text lost and how high it is, what the default code shows, and what the font
+// The panel in half blocks; what the text lost and how high it is, what the default code shows, and what the font
 // lacks.
-fn print_panel(
+fn push_panel(
+    out: &mut String,
     r: Request,
     text: &[u8],
     font: &[u8],
     codes: EncodingData,
     pixels: &[u32],
     rows: TextRows,
-    out: &mut [u8],
-)
-    requires { (length pixels.now ≤ 65536) × Sized r × (4 ≤ length out.old) }
+) -> Result<(), AllocError>
+    requires { Sized r }
 {
-    if r.kind == PICTURE {
-        print_picture(pixels, r.width, r.height, out);
-        return;
+    push_blocks(out, pixels, r.width)?;
+    writeln!(out, "dropped {} height {}", rows.dropped, rows.height)?;
+    push_served(out, text, font, codes, r.mode)
+}
+
+// What is printed of an input.
+fn shown(alloc: Global, input: &[u8]) -> Result<String, Trouble> {
+    let r = asked_of(input).ok_or(Trouble::Input)?;
+    let (text, font) = input[HEAD..].split_at(r.text as usize);
+    let mut pixels = vec![in alloc; 0u32; r.len]?;
+    let (rows, codes) = drawn(r, text, font, &mut pixels)?;
+    let mut out = String::new(alloc);
+    match r.kind {
+        Kind::Blocks => push_panel(&mut out, r, text, font, codes, &pixels, rows)?,
+        Kind::Picture => push_picture(&mut out, &pixels, r.width, r.height)?,
     }
-    print_blocks(pixels, r.width, out);
-    say_with(b"dropped # height #\n", &[rows.dropped, rows.height]);
-    print_served(text, font, codes, mode_of(r.mode));
+    Ok(out)
 }
 
-fn with_font(r: Request, text: &[u8], font: &[u8], panel: &mut [u32], out: &mut [u8])
-    requires { (length panel.old ≤ 65536) × Sized r × (4 ≤ length out.old) }
-{
-    let shown = font_shown(r, text, font, &mut *panel);
-    match shown {
-        Shown::Done(rows, codes) => print_panel(r, text, font, codes, panel, rows, out),
-        Shown::Font(no) => refusal_of(no, b"font"),
-        Shown::Text(no) => refusal_of(no, b"text"),
-    }
+fn answer(rt: &(impl Input + AllocGlobal)) -> Result<String, Trouble> {
+    shown(rt.alloc(), &input(rt, LIMIT)?)
 }
 
-fn show(input: &[u8], pixels: &mut [u32], out: &mut [u8])
-    requires { (65536 ≤ length pixels.old) × (4 ≤ length out.old) }
-{
-    let asked = asked_of(input);
-    match asked {
-        Asked::For(r) => {
-            let end = HEAD + r.text as usize;
-            with_font(
-                r,
-                &input[HEAD..end],
-                &input[end..],
-                &mut pixels[..r.len],
-                out,
-            );
-        }
-        Asked::Bad => say(b"bad input\n"),
-    }
-}
-
-// A clear panel. The `ensures` gives the length alone, which lending it needs.
-fn clear() -> [u32; PIXELS]
-    ensures { 65536 ≡ length result }
-{
-    [0; PIXELS]
-}
-
-// Room for the input and a byte more. Its length comes from a law: to count so far passes the prover's stack.
-fn room() -> [u8; ROOM]
-    ensures { 639009 ≡ length result }
-{
-    [0; ROOM]
-}
-
-// Input that fills the buffer may be longer than it, and is not read as one.
-fn main() {
-    let mut input = room();
-    let n = io::read_full(0, &mut input);
-    if MOST < n {
-        say(b"bad input\n");
-        return;
-    }
-    let mut pixels = clear();
-    let mut out = io::buffer();
-    show(&input[..n], &mut pixels, &mut out);
+fn main(rt: HostRuntime) -> io::Result<()> {
+    print_answer(&rt, answer(&rt))
 }

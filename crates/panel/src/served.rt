@@ -3,11 +3,11 @@
 ghost use Rattle.std.specs.Prelude.{◌≡◌};
 ghost use Rattle.panel.specs.Served.{wants_glyph, lacked, by_default, CountsDefaults};
 
-use console::{say, say_code, say_with, unseen};
+use console::{Characters, Code, seen};
 use lookup::{Served, serve};
 use modes::Mode;
+use std::alloc::AllocError;
 use tables::EncodingData;
-use utf8::{Step, step_at};
 
 // Whether a character is looked up, as all are but newline and carriage return.
 fn wants_glyph(code: u32) -> bool
@@ -41,59 +41,53 @@ fn default_count(text: &[u8], font: &[u8], codes: EncodingData, mode: Mode) -> u
     ensures { CountsDefaults font.now codes mode text.now result }
 {
     let mut n = 0;
-    let mut i = 0;
-    loop {
-        let here = step_at(text, i);
-        match here {
-            Step::Char(code, next) => {
-                let counts = by_default(code.0, serve(font, codes, mode, code));
-                n += counts as usize;
-                i = next;
-            }
-            Step::End => {
-                return n;
-            }
-            Step::Refused(_) => {
-                return n;
-            }
-        }
+    for code in (Characters { text, at: 0 }) {
+        let counts = by_default(code.0, serve(font, codes, mode, code));
+        n += counts as usize;
+    }
+    n
+}
+
+// A space, and the character or, where it would not be seen, its code. So there are as many spaces as characters.
+fn push_name(out: &mut String, code: u32) -> Result<(), AllocError> {
+    match seen(code) {
+        Some(character) => write!(out, " {character}"),
+        None => write!(out, " {}", Code(code)),
     }
 }
 
-// A space, and the character as its bytes or, where it would not be seen, its code. So there are as many spaces
-// as characters.
-fn print_one(code: u32, bytes: &[u8]) {
-    say(b" ");
-    if unseen(code) {
-        say_code(code);
-    } else {
-        say(bytes);
-    }
-}
-
-// The characters that the default code shows, or else those that are skipped: each occurrence, in the text's order. The
-// text was drawn, so it is UTF-8 to its end.
-fn print_names(text: &[u8], font: &[u8], codes: EncodingData, mode: Mode, shown: bool) {
-    let mut i = 0;
-    loop {
-        let here = step_at(text, i);
-        let Step::Char(code, next) = here else {
-            break;
-        };
-        let served = serve(font, codes, mode, code);
-        if (shown & by_default(code.0, served)) | (!shown & lacked(code.0, served)) {
-            print_one(code.0, &text[i..next]);
+// The names of the characters that are served so: each occurrence, in the text's order. The text was drawn, so it is
+// UTF-8 to its end.
+fn push_names<F: Fn(u32, Served) -> bool + Drop>(
+    out: &mut String,
+    text: &[u8],
+    font: &[u8],
+    codes: EncodingData,
+    mode: Mode,
+    is_named: F,
+) -> Result<(), AllocError>
+    requires { F.IsAlwaysCallable is_named }
+{
+    for code in (Characters { text, at: 0 }) {
+        if is_named(code.0, serve(font, codes, mode, code)) {
+            push_name(out, code.0)?;
         }
-        i = next;
     }
+    Ok(())
 }
 
 // A line of those that the default code shows: how many there are, that code, and each; and a line of those skipped.
-pub(crate) fn print_served(text: &[u8], font: &[u8], codes: EncodingData, mode: Mode) {
-    say_with(b"default # ", &[default_count(text, font, codes, mode)]);
-    say_code(codes.default as u32);
-    print_names(text, font, codes, mode, true);
-    say(b"\nskipped");
-    print_names(text, font, codes, mode, false);
-    say(b"\n");
+pub(crate) fn push_served(
+    out: &mut String,
+    text: &[u8],
+    font: &[u8],
+    codes: EncodingData,
+    mode: Mode,
+) -> Result<(), AllocError> {
+    let count = default_count(text, font, codes, mode);
+    write!(out, "default {count} {}", Code(codes.default as u32))?;
+    push_names(out, text, font, codes, mode, by_default)?;
+    write!(out, "\nskipped")?;
+    push_names(out, text, font, codes, mode, lacked)?;
+    writeln!(out)
 }

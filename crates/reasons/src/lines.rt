@@ -1,89 +1,64 @@
 // A line for each character: its code, the default code where that supplies the glyph, and the reason; and whether all
 // are drawn whole.
 use crate::asked::Request;
-use crate::character::print_character;
-use crate::words::say_reason;
-use console::{refusal_line, say};
-use lookup::Supplier;
-use modes::mode_of;
+use crate::character::Character;
+use crate::words::push_reason;
+use console::Characters;
 use reads::CharCode;
+use std::alloc::AllocError;
 use tables::Record;
-use utf8::{Step, step_at};
 use why::{Reason, Told, why};
 
-fn is_drawn(reason: Reason) -> bool {
-    match reason {
-        Reason::Drawn => true,
-        _ => false,
-    }
-}
-
-// Of whom a line speaks: as `U+00E9 é: ` or `U+00E9 é, by the default character U+003F ?: `.
-fn print_head(code: u32, by: Supplier) {
-    print_character(code);
-    if by.is_default {
-        say(b", by the default character ");
-        print_character(by.code.0);
-    }
-    say(b": ");
-}
-
 // A code's line, and whether it is drawn whole.
-pub(crate) fn code_told(r: Request, font: &[u8], rec: Record, code: CharCode) -> bool {
-    let told = why(
-        font,
-        rec,
-        mode_of(r.mode),
-        code,
-        r.len,
-        r.start,
-        r.stride,
-        r.scale,
-    );
-    match told {
+pub(crate) fn push_code(
+    out: &mut String,
+    r: Request,
+    font: &[u8],
+    rec: Record,
+    code: CharCode,
+) -> Result<bool, AllocError> {
+    let character = Character(code.0);
+    match why(font, rec, r.mode, code, r.len, r.start, r.stride, r.scale) {
         Told::Because(reason, by) => {
-            print_head(code.0, by);
-            say_reason(r, font, rec, by.code, reason);
-            say(b"\n");
-            is_drawn(reason)
+            write!(out, "{character}")?;
+            if by.is_default {
+                write!(out, ", by the default character {}", Character(by.code.0))?;
+            }
+            write!(out, ": ")?;
+            push_reason(out, r, font, rec, by.code, reason)?;
+            writeln!(out)?;
+            Ok(matches!(reason, Reason::Drawn))
         }
         Told::Refused(no) => {
-            print_character(code.0);
-            say(b": ");
-            refusal_line(no);
-            false
+            writeln!(out, "{character}: refused {} at {}", no.number, no.place)?;
+            Ok(false)
         }
     }
 }
 
-// The line of a text's character that is not looked up, and whether this is one.
-fn control_told(code: u32) -> bool {
-    if code == 10 {
-        print_character(code);
-        say(b": a newline, which begins a new line in a text and is not looked up\n");
-        return true;
+// What is said of a text's character that is not looked up.
+fn control(code: CharCode) -> Option<&'static str> {
+    match code.0 {
+        10 => Some("a newline, which begins a new line in a text and is not looked up"),
+        13 => Some("a carriage return, which does nothing in a text and is not looked up"),
+        _ => None,
     }
-    if code == 13 {
-        print_character(code);
-        say(b": a carriage return, which does nothing in a text and is not looked up\n");
-        return true;
-    }
-    false
 }
 
 // Every character's line, and whether all that are looked up are drawn whole. The text is UTF-8 to its end.
-pub(crate) fn text_told(r: Request, text: &[u8], font: &[u8], rec: Record) -> bool {
+pub(crate) fn push_text(
+    out: &mut String,
+    r: Request,
+    text: &[u8],
+    font: &[u8],
+    rec: Record,
+) -> Result<bool, AllocError> {
     let mut whole = true;
-    let mut i = 0;
-    loop {
-        let here = step_at(text, i);
-        let Step::Char(code, next) = here else {
-            break;
-        };
-        if !control_told(code.0) {
-            whole = code_told(r, font, rec, code) & whole;
+    for code in (Characters { text, at: 0 }) {
+        match control(code) {
+            Some(said) => writeln!(out, "{}: {said}", Character(code.0))?,
+            None => whole &= push_code(out, r, font, rec, code)?,
         }
-        i = next;
     }
-    whole
+    Ok(whole)
 }

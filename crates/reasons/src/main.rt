@@ -10,92 +10,74 @@ mod lines;
 mod picture;
 mod words;
 
-ghost use Rattle.std.specs.Prelude.{◌≡◌, length};
-
-use crate::asked::{Asked, CODE, HEAD, Request, asked_of};
-use crate::lines::{code_told, text_told};
-use console::{refusal_of, say, say_item};
+use crate::asked::{HEAD, Kind, asked_of};
+use crate::lines::{push_code, push_text};
+use console::{Trouble, input, print_answer};
 use load::Loaded;
 use outcome::ok_place;
+use std::alloc::Global;
+use std::io;
 use tables::{Permit, Record, guard, record_fits};
 use utf8::Checked;
 use vet::Vetted;
 
-// 65,536 bytes of a text, which is one more than the library takes, and 573,440 of a font.
-const MOST: usize = 36 + 65536 + 573440;
+// A byte more than those that are asked with, 65,536 of a text, which is one more than the library takes, and 573,440
+// of a font.
+const LIMIT: usize = HEAD + 65536 + 573440 + 1;
 
-const ROOM: usize = MOST + 1;
-
-fn vetting_told(font: &[u8]) {
-    match vet::vet(font) {
-        Vetted::Passed(_) => {}
-        Vetted::Refused(no) => refusal_of(no, b"vetting"),
-    }
-}
-
-fn last_line(whole: bool) {
-    say_item(b"not all drawn\n|all drawn\n", whole as usize, &[]);
-}
-
-// A text is refused as a whole, as when it is drawn.
-fn with_limits(r: Request, text: &[u8], font: &[u8], rec: Record) {
-    match utf8::check(text) {
-        Checked::Whole => {
-            vetting_told(font);
-            if r.kind == CODE {
-                last_line(code_told(r, font, rec, r.code));
-                return;
-            }
-            last_line(text_told(r, text, font, rec));
-        }
-        Checked::Refused(no) => refusal_of(no, b"text"),
+fn loaded(font: &[u8]) -> Result<Record, Trouble> {
+    match load::load_pcf(font) {
+        Loaded::Font(rec) => Ok(rec),
+        Loaded::Refused(no) => Err(Trouble::Font(no)),
     }
 }
 
 // The tests that every drawing makes come first.
-fn with_record(r: Request, text: &[u8], font: &[u8], rec: Record) {
-    let permit = guard(
+fn permitted(permit: Permit) -> Result<(), Trouble> {
+    match permit {
+        Permit::Given => Ok(()),
+        Permit::Refused(no) => Err(Trouble::Text(no)),
+    }
+}
+
+// A text is refused as a whole, as when it is drawn.
+fn checked(text: &[u8]) -> Result<(), Trouble> {
+    match utf8::check(text) {
+        Checked::Whole => Ok(()),
+        Checked::Refused(no) => Err(Trouble::Text(no)),
+    }
+}
+
+// What is printed of an input.
+fn told(alloc: Global, input: &[u8]) -> Result<String, Trouble> {
+    let r = asked_of(input).ok_or(Trouble::Input)?;
+    let (text, font) = input[HEAD..].split_at(r.text as usize);
+    let rec = loaded(font)?;
+    permitted(guard(
         record_fits(font.len(), rec),
         ok_place(r.start, r.stride, r.scale),
-    );
-    match permit {
-        Permit::Given => with_limits(r, text, font, rec),
-        Permit::Refused(no) => refusal_of(no, b"text"),
+    ))?;
+    checked(text)?;
+    let mut out = String::new(alloc);
+    if let Vetted::Refused(no) = vet::vet(font) {
+        writeln!(out, "{}", Trouble::Vetting(no))?;
     }
+    let whole = match r.kind {
+        Kind::Characters => push_text(&mut out, r, text, font, rec)?,
+        Kind::Code => push_code(&mut out, r, font, rec, r.code)?,
+    };
+    out.push_str(if whole {
+        "all drawn\n"
+    } else {
+        "not all drawn\n"
+    })?;
+    Ok(out)
 }
 
-fn with_font(r: Request, text: &[u8], font: &[u8]) {
-    match load::load_pcf(font) {
-        Loaded::Font(rec) => with_record(r, text, font, rec),
-        Loaded::Refused(no) => refusal_of(no, b"font"),
-    }
+fn answer(rt: &(impl Input + AllocGlobal)) -> Result<String, Trouble> {
+    told(rt.alloc(), &input(rt, LIMIT)?)
 }
 
-fn answer(input: &[u8]) {
-    let asked = asked_of(input);
-    match asked {
-        Asked::For(r) => {
-            let end = HEAD + r.text as usize;
-            with_font(r, &input[HEAD..end], &input[end..]);
-        }
-        Asked::Bad => say(b"bad input\n"),
-    }
-}
-
-// Room for the input and a byte more. Its length comes from a law: to count so far passes the prover's stack.
-fn room() -> [u8; ROOM]
-    ensures { 639013 ≡ length result }
-{
-    [0; ROOM]
-}
-
-// Input that fills the buffer may be longer than it, and is not read as one.
-fn main() {
-    let mut input = room();
-    let n = io::read_full(0, &mut input);
-    if MOST < n {
-        say(b"bad input\n");
-        return;
-    }
-    answer(&input[..n]);
+fn main(rt: HostRuntime) -> io::Result<()> {
+    print_answer(&rt, answer(&rt))
 }

@@ -1,12 +1,47 @@
 // The reasons of a glyph that can be placed: how large it is, where it begins, and what hinders it.
 use crate::asked::Request;
 use bitmaps::{offset_of, row_stride};
-use console::{say, say_item, say_with};
 use glyphs::place_of;
 use outcome::ok_place;
 use place::GlyphInfo;
+use std::alloc::AllocError;
+use std::fmt;
 use tables::BitmapData;
 use why::Reason;
+
+// How many there are of something, as `1 pixel` or `2 pixels`.
+#[derive(Clone, Copy)]
+struct Count(usize, &'static str);
+
+impl fmt::Display for Count {
+    fn fmt<W: fmt::Write>(&self, f: &mut fmt::Formatter<W>) -> fmt::Result {
+        write!(f, "{} {}", self.0, self.1)?;
+        if self.0 == 1 { Ok(()) } else { write!(f, "s") }
+    }
+}
+
+// As `5 by 7 pixels`.
+#[derive(Clone, Copy)]
+struct Size(GlyphInfo);
+
+impl fmt::Display for Size {
+    fn fmt<W: fmt::Write>(&self, f: &mut fmt::Formatter<W>) -> fmt::Result {
+        write!(f, "{} by {} pixels", self.0.width, self.0.height)
+    }
+}
+
+// As ` at scale 2`, of a scale above 1.
+#[derive(Clone, Copy)]
+struct Scaled(usize);
+
+impl fmt::Display for Scaled {
+    fn fmt<W: fmt::Write>(&self, f: &mut fmt::Formatter<W>) -> fmt::Result {
+        match self.0 {
+            1 => Ok(()),
+            scale => write!(f, " at scale {scale}"),
+        }
+    }
+}
 
 // The pixel that a glyph begins at; outside the limits, where nothing is drawn, 0.
 fn first_pixel(info: GlyphInfo, start: usize, stride: usize, scale: usize) -> usize {
@@ -18,13 +53,7 @@ fn first_pixel(info: GlyphInfo, start: usize, stride: usize, scale: usize) -> us
 
 // How many whole lines of a panel of `len` pixels are left from this pixel on.
 fn whole_lines(len: usize, pixel: usize, stride: usize) -> usize {
-    if len < pixel {
-        return 0;
-    }
-    if stride == 0 {
-        return 0;
-    }
-    (len - pixel) / stride
+    len.saturating_sub(pixel).checked_div(stride).unwrap_or(0)
 }
 
 // Whether a glyph that begins at this pixel runs past its line's right end, where nothing stops it.
@@ -35,146 +64,144 @@ fn passes_line(first: usize, width: u16, start: usize, stride: usize, scale: usi
     false
 }
 
-// How many of these rows are left when so many are cut.
-fn rows_left(height: u16, cut: u16) -> usize {
-    if height < cut {
-        return 0;
-    }
-    (height - cut) as usize
-}
-
-fn say_size(info: GlyphInfo) {
-    say_with(
-        b"# by # pixels",
-        &[info.width as usize, info.height as usize],
-    );
-}
-
-fn say_scale(scale: usize) {
-    say_item(b"| at scale #", (scale != 1) as usize, &[scale]);
-}
-
 // As `5 by 7 pixels from pixel 74 on`, or `5 by 7 pixels at scale 2 from pixel 74 on`.
-fn say_place(r: Request, info: GlyphInfo, first: usize) {
-    say_size(info);
-    say_scale(r.scale);
-    say_with(b" from pixel # on", &[first]);
-}
-
-fn say_pixels(len: usize) {
-    say_item(b"# pixels|# pixel", (len == 1) as usize, &[len]);
+fn push_place(
+    out: &mut String,
+    r: Request,
+    info: GlyphInfo,
+    first: usize,
+) -> Result<(), AllocError> {
+    write!(
+        out,
+        "{}{} from pixel {first} on",
+        Size(info),
+        Scaled(r.scale)
+    )
 }
 
 // Adds that a glyph runs past its line's right end, if it does.
-fn say_passing(r: Request, info: GlyphInfo, first: usize) {
-    say_item(
-        b"|, and it runs past the right end of its line",
-        passes_line(first, info.width, r.start, r.stride, r.scale) as usize,
-        &[],
-    );
+fn push_passing(
+    out: &mut String,
+    r: Request,
+    info: GlyphInfo,
+    first: usize,
+) -> Result<(), AllocError> {
+    if passes_line(first, info.width, r.start, r.stride, r.scale) {
+        out.push_str(", and it runs past the right end of its line")?;
+    }
+    Ok(())
 }
 
-fn say_data(font: &[u8], b: BitmapData, info: GlyphInfo) {
+fn push_data(
+    out: &mut String,
+    font: &[u8],
+    b: BitmapData,
+    info: GlyphInfo,
+) -> Result<(), AllocError> {
     let step = row_stride(info.width, b.pad) as usize;
-    let from = offset_of(font, b, info.glyph) as usize;
-    say(b"refusal 14: its bitmap, ");
-    say_size(info);
-    say_item(
-        b" in rows of # bytes| in rows of # byte",
-        (step == 1) as usize,
-        &[step],
-    );
-    say_with(
-        b", begins at byte # of the font's bitmap data, which has # bytes",
-        &[from, b.size],
-    );
+    let from = offset_of(font, b, info.glyph);
+    let (size, row) = (Size(info), Count(step, "byte"));
+    write!(
+        out,
+        "refusal 14: its bitmap, {size} in rows of {row}, begins at byte {from} "
+    )?;
+    write!(out, "of the font's bitmap data, which has {} bytes", b.size)
 }
 
 // The whole lines that are left for a glyph and, above scale 1, for how many of its rows they count.
-fn say_lines(r: Request, first: usize, rows: usize) {
+fn push_lines(out: &mut String, r: Request, first: usize, rows: usize) -> Result<(), AllocError> {
     let lines = whole_lines(r.len, first, r.stride);
-    say_with(b"from pixel # on", &[first]);
-    say_item(
-        b" the panel's # pixels have| the panel's # pixel has",
-        (r.len == 1) as usize,
-        &[r.len],
-    );
+    let have = if r.len == 1 { "has" } else { "have" };
+    let pixels = Count(r.len, "pixel");
+    write!(out, "from pixel {first} on the panel's {pixels} {have} ")?;
     if lines == 0 {
-        say_with(b" no whole line of # left", &[r.stride]);
-        return;
+        return write!(out, "no whole line of {} left", r.stride);
     }
-    say_item(
-        b" # whole lines of # left| # whole line of # left",
-        (lines == 1) as usize,
-        &[lines, r.stride],
-    );
+    write!(out, "{} of {} left", Count(lines, "whole line"), r.stride)?;
     if r.scale != 1 {
-        say_item(
-            b", which count for |, which counts for ",
-            (lines == 1) as usize,
-            &[],
-        );
-        say_item(b"# rows|no row", (rows == 0) as usize, &[rows]);
+        let count = if lines == 1 { "counts" } else { "count" };
+        write!(out, ", which {count} for ")?;
+        match rows {
+            0 => out.push_str("no row")?,
+            _ => write!(out, "{rows} rows")?,
+        }
     }
+    Ok(())
 }
 
 // Where no row is left, none runs past its line.
-fn say_cut(r: Request, info: GlyphInfo, first: usize, cut: u16) {
-    let rows = rows_left(info.height, cut);
-    say_item(
-        b"# of its # rows are cut|# of its # rows is cut",
-        (cut == 1) as usize,
-        &[cut as usize, info.height as usize],
-    );
-    say_scale(r.scale);
-    say(b": ");
+fn push_cut(
+    out: &mut String,
+    r: Request,
+    info: GlyphInfo,
+    first: usize,
+    cut: u16,
+) -> Result<(), AllocError> {
+    let are = if cut == 1 { "is" } else { "are" };
+    let height = info.height;
+    write!(
+        out,
+        "{cut} of its {height} rows {are} cut{}: ",
+        Scaled(r.scale)
+    )?;
     if r.len <= first {
-        say_with(
-            b"it begins at pixel #, beyond the end of the panel, which has ",
-            &[first],
-        );
-        say_pixels(r.len);
-        return;
+        write!(
+            out,
+            "it begins at pixel {first}, beyond the end of the panel, which has "
+        )?;
+        return write!(out, "{}", Count(r.len, "pixel"));
     }
-    say_lines(r, first, rows);
+    let rows = height.saturating_sub(cut) as usize;
+    push_lines(out, r, first, rows)?;
     if rows != 0 {
-        say_passing(r, info, first);
+        push_passing(out, r, info, first)?;
     }
+    Ok(())
 }
 
 // A picture without width or height has no pixel that could be set.
-fn say_blank(info: GlyphInfo) {
-    say(b"blank, as a space is: ");
+fn push_blank(out: &mut String, info: GlyphInfo) -> Result<(), AllocError> {
+    write!(out, "blank, as a space is: ")?;
     if (info.width == 0) | (info.height == 0) {
-        say(b"its bitmap is ");
-        say_size(info);
-        return;
+        write!(out, "its bitmap is {}", Size(info))
+    } else {
+        write!(out, "none of its {} is set", Size(info))
     }
-    say(b"none of its ");
-    say_size(info);
-    say(b" is set");
+}
+
+fn push_short(
+    out: &mut String,
+    r: Request,
+    info: GlyphInfo,
+    first: usize,
+) -> Result<(), AllocError> {
+    write!(out, "refusal 16: ")?;
+    push_place(out, r, info, first)?;
+    write!(out, " pass the end of the panel, which has ")?;
+    write!(out, "{} in lines of {}", Count(r.len, "pixel"), r.stride)
 }
 
 // The reasons before these are said elsewhere. They have their names here, so that a new one is not forgotten.
-pub(crate) fn say_picture(r: Request, font: &[u8], b: BitmapData, info: GlyphInfo, reason: Reason) {
+pub(crate) fn push_picture(
+    out: &mut String,
+    r: Request,
+    font: &[u8],
+    b: BitmapData,
+    info: GlyphInfo,
+    reason: Reason,
+) -> Result<(), AllocError> {
     let first = first_pixel(info, r.start, r.stride, r.scale);
     match reason {
-        Reason::BitmapShort => say_data(font, b, info),
-        Reason::BufferShort => {
-            say(b"refusal 16: ");
-            say_place(r, info, first);
-            say(b" pass the end of the panel, which has ");
-            say_pixels(r.len);
-            say_with(b" in lines of #", &[r.stride]);
-        }
-        Reason::RowsCut(cut) => say_cut(r, info, first, cut),
-        Reason::Blank => say_blank(info),
+        Reason::BitmapShort => push_data(out, font, b, info),
+        Reason::BufferShort => push_short(out, r, info, first),
+        Reason::RowsCut(cut) => push_cut(out, r, info, first, cut),
+        Reason::Blank => push_blank(out, info),
         Reason::Drawn => {
-            say(b"drawn: ");
-            say_place(r, info, first);
-            say_passing(r, info, first);
+            write!(out, "drawn: ")?;
+            push_place(out, r, info, first)?;
+            push_passing(out, r, info, first)
         }
-        Reason::AboveCodes | Reason::FirstByte | Reason::SecondByte | Reason::EmptyEntry => {}
-        Reason::NoMetrics | Reason::BadMetrics | Reason::NoBitmap | Reason::BitOrder => {}
+        Reason::AboveCodes | Reason::FirstByte | Reason::SecondByte | Reason::EmptyEntry => Ok(()),
+        Reason::NoMetrics | Reason::BadMetrics | Reason::NoBitmap | Reason::BitOrder => Ok(()),
     }
 }

@@ -1,5 +1,5 @@
-// A call in a file: 64 bytes, numbers with the least significant byte first. `c` is the file from the call on, and
-// each number is read where it is used:
+// A call in a file: 64 bytes, numbers with the least significant byte first. Each number is read where it is used, and
+// is 0 where the file ends before it:
 //
 //      0  the kind
 //      1  the mode's number; of a change the field, see `changes`
@@ -16,116 +16,204 @@ use place::GlyphInfo;
 use reads::{CharCode, GlyphIndex, byte_at, u16_at, u32_at};
 use text::Wrap;
 
-pub(crate) const CALL: usize = 64;
-
-pub(crate) const CHANGE: u8 = 0;
-
-pub(crate) const BITMAP: u8 = 1;
-
-pub(crate) const GLYPH: u8 = 2;
-
-pub(crate) const CHAR: u8 = 3;
-
-pub(crate) const UNPACK: u8 = 4;
-
-pub(crate) const PREP: u8 = 5;
-
-// 6, drawing a placed glyph with no record's test, is what is left of the kinds that draw.
-pub(crate) const TEXT: u8 = 7;
-
-pub(crate) const STEP: u8 = 8;
-
-pub(crate) const LOAD: u8 = 9;
-
-pub(crate) const PROP: u8 = 10;
-
-pub(crate) const LOOKUP: u8 = 11;
-
-pub(crate) const NAME: u8 = 12;
-
-pub(crate) const METRICS: u8 = 13;
-
-pub(crate) const DIMENSIONS: u8 = 14;
-
-pub(crate) const ACCELERATORS: u8 = 15;
-
-pub(crate) const NAME_BYTES: u8 = 16;
-
-pub(crate) const CODES: u8 = 17;
-
-pub(crate) const STRICT: u8 = 18;
-
-pub(crate) const CHECK: u8 = 19;
-
-// 22, filling a buffer with the bytes of lines, is what is left of the kinds that put bytes.
-pub(crate) const FRAME: u8 = 20;
-
-pub(crate) const REFUSED: u8 = 21;
-
-pub(crate) fn kind_at(c: &[u8]) -> u8 {
-    byte_at(c, 0, 0)
+#[derive(Clone, Copy)]
+pub(crate) enum Kind {
+    Change,
+    Draw(Drawing),
+    Unpack,
+    Prep,
+    Step,
+    Read(Reading),
+    Check,
+    Put(Putting),
 }
 
-fn mode_number(c: &[u8]) -> u32 {
-    byte_at(c, 0, 1) as u32
+#[derive(Clone, Copy)]
+pub(crate) enum Drawing {
+    Bitmap,
+    Glyph,
+    Char,
+    // A placed glyph, with no record's test.
+    Placed,
+    Text,
 }
 
-pub(crate) fn has_mode(c: &[u8]) -> bool {
-    is_known(mode_number(c))
+#[derive(Clone, Copy)]
+pub(crate) enum Reading {
+    Record,
+    Prop,
+    Glyph,
+    Name,
+    Metrics,
+    Dimensions,
+    Accelerators,
+    NameBytes,
+    Codes,
+    Strict,
 }
 
-pub(crate) fn mode_at(c: &[u8]) -> Mode {
-    mode_of(mode_number(c))
+#[derive(Clone, Copy)]
+pub(crate) enum Putting {
+    Frame,
+    Refused,
+    // The bytes of lines.
+    Bytes,
 }
 
-pub(crate) fn number_at(c: &[u8]) -> u32 {
-    u32_at(c, 0, 4, false)
-}
+// In the order of the kinds' numbers.
+static NAMES: [&str; 23] = [
+    "change",
+    "draw_bitmap",
+    "draw_glyph",
+    "draw_char",
+    "unpack_glyph",
+    "prep_char",
+    "show_glyph",
+    "draw_string",
+    "step_at",
+    "load_pcf",
+    "prop_at",
+    "get_glyph",
+    "get_name",
+    "get_metrics",
+    "dimensions",
+    "accelerators",
+    "name_bytes",
+    "all_codes",
+    "load_strict",
+    "check",
+    "put_frame",
+    "put_refused",
+    "fill_bytes",
+];
 
-pub(crate) fn code_at(c: &[u8]) -> CharCode {
-    CharCode(number_at(c))
-}
+#[derive(Clone, Copy)]
+pub(crate) struct Call<'a>(pub(crate) &'a [u8]);
 
-pub(crate) fn glyph_at(c: &[u8]) -> GlyphIndex {
-    GlyphIndex(u16_at(c, 0, 2, false))
-}
+impl<'a> Call<'a> {
+    pub(crate) const SIZE: usize = 64;
 
-pub(crate) fn colour_at(c: &[u8]) -> u32 {
-    u32_at(c, 0, 28, false)
-}
-
-// A number of eight bytes.
-pub(crate) fn size_at(c: &[u8], k: usize) -> usize {
-    let low = u32_at(c, k, 0, false) as usize;
-    let high = u32_at(c, k, 4, false) as usize;
-    high * 4294967296 + low
-}
-
-pub(crate) fn info_at(c: &[u8]) -> GlyphInfo {
-    GlyphInfo {
-        glyph: glyph_at(c),
-        width: u16_at(c, 0, 8, false),
-        height: u16_at(c, 0, 16, false),
-        pad_top: u16_at(c, 0, 24, false),
-        pad_left: u16_at(c, 0, 26, false),
+    // A number that no kind has stands for the last one, and has no name.
+    pub(crate) fn kind(self) -> Kind {
+        match self.byte(0) {
+            0 => Kind::Change,
+            1 => Kind::Draw(Drawing::Bitmap),
+            2 => Kind::Draw(Drawing::Glyph),
+            3 => Kind::Draw(Drawing::Char),
+            4 => Kind::Unpack,
+            5 => Kind::Prep,
+            6 => Kind::Draw(Drawing::Placed),
+            7 => Kind::Draw(Drawing::Text),
+            8 => Kind::Step,
+            9 => Kind::Read(Reading::Record),
+            10 => Kind::Read(Reading::Prop),
+            11 => Kind::Read(Reading::Glyph),
+            12 => Kind::Read(Reading::Name),
+            13 => Kind::Read(Reading::Metrics),
+            14 => Kind::Read(Reading::Dimensions),
+            15 => Kind::Read(Reading::Accelerators),
+            16 => Kind::Read(Reading::NameBytes),
+            17 => Kind::Read(Reading::Codes),
+            18 => Kind::Read(Reading::Strict),
+            19 => Kind::Check,
+            20 => Kind::Put(Putting::Frame),
+            21 => Kind::Put(Putting::Refused),
+            _ => Kind::Put(Putting::Bytes),
+        }
     }
-}
 
-pub(crate) fn wrap_at(c: &[u8]) -> Wrap {
-    if byte_at(c, 0, 2) == 0 {
-        return Wrap::Never;
+    pub(crate) fn name(self) -> Option<&'static str> {
+        NAMES.get(usize::from(self.byte(0))).copied()
     }
-    Wrap::At(size_at(c, 8) as u64)
-}
 
-// The text of a call, a part of what is lent: the font's bytes, and the texts after them.
-pub(crate) fn text_of<'a>(lent: &'a [u8], c: &[u8]) -> &'a [u8] {
-    let start = number_at(c) as usize;
-    part_of(
-        lent,
-        Span {
-            start,
-            len: size_at(c, 16),
-        },
-    )
+    pub(crate) fn byte(self, k: usize) -> u8 {
+        byte_at(self.0, 0, k)
+    }
+
+    pub(crate) fn short(self, k: usize) -> u16 {
+        u16_at(self.0, 0, k, false)
+    }
+
+    pub(crate) fn word(self, k: usize) -> u32 {
+        u32_at(self.0, 0, k, false)
+    }
+
+    // A number of eight bytes.
+    pub(crate) fn size(self, k: usize) -> usize {
+        let low = u32_at(self.0, k, 0, false) as usize;
+        let high = u32_at(self.0, k, 4, false) as usize;
+        high * 4294967296 + low
+    }
+
+    pub(crate) fn mode(self) -> Option<Mode> {
+        let number = u32::from(self.byte(1));
+        is_known(number).then_some(mode_of(number))
+    }
+
+    pub(crate) fn number(self) -> u32 {
+        self.word(4)
+    }
+
+    pub(crate) fn code(self) -> CharCode {
+        CharCode(self.number())
+    }
+
+    pub(crate) fn glyph(self) -> GlyphIndex {
+        GlyphIndex(self.short(2))
+    }
+
+    pub(crate) fn colour(self) -> u32 {
+        self.word(28)
+    }
+
+    pub(crate) fn width(self) -> usize {
+        self.size(8)
+    }
+
+    pub(crate) fn height(self) -> usize {
+        self.size(16)
+    }
+
+    pub(crate) fn len(self) -> usize {
+        self.size(32)
+    }
+
+    pub(crate) fn start(self) -> usize {
+        self.size(40)
+    }
+
+    pub(crate) fn stride(self) -> usize {
+        self.size(48)
+    }
+
+    pub(crate) fn scale(self) -> usize {
+        self.size(56)
+    }
+
+    pub(crate) fn info(self) -> GlyphInfo {
+        GlyphInfo {
+            glyph: self.glyph(),
+            width: self.short(8),
+            height: self.short(16),
+            pad_top: self.short(24),
+            pad_left: self.short(26),
+        }
+    }
+
+    pub(crate) fn wrap_at(self) -> Wrap {
+        if self.byte(2) == 0 {
+            Wrap::Never
+        } else {
+            Wrap::At(self.size(8) as u64)
+        }
+    }
+
+    // The text of a call, a part of what is lent: the font's bytes, and the texts after them.
+    pub(crate) fn text_in(self, lent: &'a [u8]) -> &'a [u8] {
+        let span = Span {
+            start: self.number() as usize,
+            len: self.size(16),
+        };
+        part_of(lent, span)
+    }
 }

@@ -1,36 +1,20 @@
 // The record with one field set, by the field's number: what a caller may hand in who did not take the
 // record from loading. The fields are numbered as tests/replay/calls.py lists them, those of one type
 // together, and the value is read as a field of that type has it.
-use crate::calls::size_at;
-use reads::{byte_at, i16_at, u16_at, u32_at};
-use tables::{AcceleratorUnpacked, MetricsUnpacked, Record};
+use crate::calls::Call;
+use reads::i16_at;
+use tables::Record;
 
-fn bounds_with(bounds: MetricsUnpacked, field: u8, bound: i16) -> MetricsUnpacked {
-    let mut m = bounds;
-    match field {
-        21 => m.width = bound,
-        22 => m.ascent = bound,
-        _ => m.descent = bound,
-    }
-    m
-}
-
-fn accel_with(accel: AcceleratorUnpacked, field: u8, bound: i16) -> AcceleratorUnpacked {
-    let mut a = accel;
-    a.maxbounds = bounds_with(a.maxbounds, field, bound);
-    a
-}
-
-pub(crate) fn changed(rec: Record, c: &[u8]) -> Record {
+// Each number stands here alone: an enum of the fields would list them twice.
+pub(crate) fn changed(rec: Record, call: Call<'_>) -> Record {
     let mut r = rec;
-    let size = size_at(c, 8);
-    let count = u32_at(c, 0, 8, false);
-    let code = u16_at(c, 0, 8, false);
-    let bound = i16_at(c, 0, 8, false);
-    let byte = byte_at(c, 0, 8);
+    let size = call.size(8);
+    let count = call.word(8);
+    let code = call.short(8);
+    let bound = i16_at(call.0, 0, 8, false);
+    let byte = call.byte(8);
     let flag = byte != 0;
-    let field = byte_at(c, 0, 1);
-    match field {
+    match call.byte(1) {
         0 => r.props.records = size,
         1 => r.props.strings = size,
         2 => r.props.size = size,
@@ -52,10 +36,9 @@ pub(crate) fn changed(rec: Record, c: &[u8]) -> Record {
         18 => r.codes.low1 = code,
         19 => r.codes.high1 = code,
         20 => r.codes.default = code,
-        21..=23 => {
-            let a = accel_with(rec.accel, field, bound);
-            r.accel = a;
-        }
+        21 => r.accel.maxbounds.width = bound,
+        22 => r.accel.maxbounds.ascent = bound,
+        23 => r.accel.maxbounds.descent = bound,
         24 => r.bitmaps.pad = byte,
         25 => r.bitmaps.unit = byte,
         26 => r.metrics.big = flag,

@@ -1,211 +1,259 @@
 // The calls that draw: as a dry run, whose buffer may be longer than any, and with a buffer lent to them.
 use crate::answers::{because, char_drawn, drawn, text_drawn, unpacked};
-use crate::calls::{
-    BITMAP, CHAR, GLYPH, TEXT, UNPACK, code_at, colour_at, glyph_at, info_at, kind_at, mode_at,
-    size_at, wrap_at,
-};
-use console::{fill_bytes, fill_pixels, say, told, told_bytes};
-use reads::{byte_at, u16_at};
-use tables::Record;
+use crate::asked::Asked;
+use crate::calls::Drawing;
+use console::{Changed, fill_bytes, fill_pixels};
+use std::io;
 
-fn dry(font: &[u8], rec: Record, c: &[u8], text: &[u8]) {
-    say(b"dry run ");
-    let len = size_at(c, 32);
-    let start = size_at(c, 40);
-    let stride = size_at(c, 48);
-    let scale = size_at(c, 56);
-    let kind = kind_at(c);
-    match kind {
-        BITMAP => drawn(outcome::bitmap_check(
+impl Asked<'_> {
+    fn dry(self, rt: &impl Print, how: Drawing) -> io::Result<()> {
+        let Asked {
             font,
             rec,
-            glyph_at(c),
-            size_at(c, 8),
-            size_at(c, 16),
-            len,
-            start,
-            stride,
-            scale,
-        )),
-        GLYPH => drawn(glyphs::glyph_check(
-            font,
-            rec,
-            mode_at(c),
-            info_at(c),
-            len,
-            start,
-            stride,
-            scale,
-        )),
-        CHAR => char_drawn(glyphs::char_check(
-            font,
-            rec,
-            mode_at(c),
-            code_at(c),
-            len,
-            start,
-            stride,
-            scale,
-        )),
-        UNPACK => unpacked(glyphs::unpack_check(
-            font,
-            rec,
-            mode_at(c),
-            info_at(c),
-            len,
-            start,
-            stride,
-        )),
-        TEXT => text_drawn(text::text_check(
-            font,
-            rec,
-            mode_at(c),
+            mode,
+            call,
             text,
-            len,
-            start,
-            wrap_at(c),
-            stride,
-            scale,
-        )),
-        _ => drawn(glyphs::glyph_drawn(
-            font,
-            rec.bitmaps,
-            info_at(c),
-            len,
-            start,
-            u16_at(c, 0, 48, false),
-            byte_at(c, 0, 56),
-        )),
+        } = self;
+        let len = call.len();
+        let start = call.start();
+        let stride = call.stride();
+        let scale = call.scale();
+        print!(rt; "dry run ")?;
+        match how {
+            Drawing::Bitmap => drawn(
+                rt,
+                outcome::bitmap_check(
+                    font,
+                    rec,
+                    call.glyph(),
+                    call.width(),
+                    call.height(),
+                    len,
+                    start,
+                    stride,
+                    scale,
+                ),
+            ),
+            Drawing::Glyph => drawn(
+                rt,
+                glyphs::glyph_check(font, rec, mode, call.info(), len, start, stride, scale),
+            ),
+            Drawing::Char => char_drawn(
+                rt,
+                glyphs::char_check(font, rec, mode, call.code(), len, start, stride, scale),
+            ),
+            Drawing::Text => text_drawn(
+                rt,
+                text::text_check(
+                    font,
+                    rec,
+                    mode,
+                    text,
+                    len,
+                    start,
+                    call.wrap_at(),
+                    stride,
+                    scale,
+                ),
+            ),
+            Drawing::Placed => drawn(
+                rt,
+                glyphs::glyph_drawn(
+                    font,
+                    rec.bitmaps,
+                    call.info(),
+                    len,
+                    start,
+                    call.short(48),
+                    call.byte(56),
+                ),
+            ),
+        }
     }
-}
 
-fn wet(font: &[u8], rec: Record, c: &[u8], text: &[u8], buf: &mut [u32]) {
-    let start = size_at(c, 40);
-    let stride = size_at(c, 48);
-    let scale = size_at(c, 56);
-    let colour = colour_at(c);
-    let kind = kind_at(c);
-    match kind {
-        BITMAP => drawn(paint::draw_bitmap(
+    fn wet(self, rt: &impl Print, how: Drawing, buf: &mut [u32]) -> io::Result<()> {
+        let Asked {
             font,
             rec,
-            glyph_at(c),
-            size_at(c, 8),
-            size_at(c, 16),
-            buf,
-            start,
-            stride,
-            scale,
-            colour,
-        )),
-        GLYPH => drawn(glyphs::draw_glyph(
-            font,
-            rec,
-            mode_at(c),
-            info_at(c),
-            buf,
-            start,
-            stride,
-            scale,
-            colour,
-        )),
-        CHAR => char_drawn(glyphs::draw_char(
-            font,
-            rec,
-            mode_at(c),
-            code_at(c),
-            buf,
-            start,
-            stride,
-            scale,
-            colour,
-        )),
-        TEXT => text_drawn(text::draw_string(
-            font,
-            rec,
-            mode_at(c),
+            mode,
+            call,
             text,
-            buf,
-            start,
-            wrap_at(c),
-            stride,
-            scale,
-            colour,
-        )),
-        _ => drawn(glyphs::show_glyph(
+        } = self;
+        let start = call.start();
+        let stride = call.stride();
+        let scale = call.scale();
+        let colour = call.colour();
+        match how {
+            Drawing::Bitmap => drawn(
+                rt,
+                paint::draw_bitmap(
+                    font,
+                    rec,
+                    call.glyph(),
+                    call.width(),
+                    call.height(),
+                    buf,
+                    start,
+                    stride,
+                    scale,
+                    colour,
+                ),
+            ),
+            Drawing::Glyph => drawn(
+                rt,
+                glyphs::draw_glyph(
+                    font,
+                    rec,
+                    mode,
+                    call.info(),
+                    buf,
+                    start,
+                    stride,
+                    scale,
+                    colour,
+                ),
+            ),
+            Drawing::Char => char_drawn(
+                rt,
+                glyphs::draw_char(
+                    font,
+                    rec,
+                    mode,
+                    call.code(),
+                    buf,
+                    start,
+                    stride,
+                    scale,
+                    colour,
+                ),
+            ),
+            Drawing::Text => text_drawn(
+                rt,
+                text::draw_string(
+                    font,
+                    rec,
+                    mode,
+                    text,
+                    buf,
+                    start,
+                    call.wrap_at(),
+                    stride,
+                    scale,
+                    colour,
+                ),
+            ),
+            Drawing::Placed => drawn(
+                rt,
+                glyphs::show_glyph(
+                    font,
+                    rec.bitmaps,
+                    call.info(),
+                    buf,
+                    start,
+                    call.short(48),
+                    call.byte(56),
+                    colour,
+                ),
+            ),
+        }
+    }
+
+    // The call with the buffer's first part lent to it, its dry run, and what changed in the whole buffer. Where there
+    // is no buffer of that length, the dry run alone.
+    fn pixels(self, rt: &impl Print, how: Drawing) -> io::Result<()> {
+        let mut buf = [0u32; 4096];
+        fill_pixels(&mut buf);
+        let Some(lent) = buf.get_mut(..self.call.len()) else {
+            return self.dry(rt, how);
+        };
+        self.wet(rt, how, lent)?;
+        print!(rt; "; ")?;
+        self.dry(rt, how)?;
+        let colour = self.call.colour();
+        print!(rt; "; pixels {}", Changed { buf: &buf, colour })
+    }
+
+    // Why a character is on the glass or not, in a buffer of any length.
+    fn reason(self, rt: &impl Print) -> io::Result<()> {
+        let Asked {
             font,
-            rec.bitmaps,
-            info_at(c),
-            buf,
-            start,
-            u16_at(c, 0, 48, false),
-            byte_at(c, 0, 56),
-            colour,
-        )),
+            rec,
+            mode,
+            call,
+            ..
+        } = self;
+        print!(rt; "; why ")?;
+        let told = why::why(
+            font,
+            rec,
+            mode,
+            call.code(),
+            call.len(),
+            call.start(),
+            call.stride(),
+            call.scale(),
+        );
+        because(rt, told)
     }
-}
 
-fn with_pixels(font: &[u8], rec: Record, c: &[u8], text: &[u8], buf: &mut [u32]) {
-    let n = size_at(c, 32);
-    if buf.len() < n {
-        dry(font, rec, c, text);
-        return;
+    // Of a character the reason too.
+    pub(crate) fn drawing(self, rt: &impl Print, how: Drawing) -> io::Result<()> {
+        self.pixels(rt, how)?;
+        match how {
+            Drawing::Char => self.reason(rt),
+            _ => Ok(()),
+        }
     }
-    fill_pixels(buf);
-    wet(font, rec, c, text, &mut buf[0..n]);
-    say(b"; ");
-    dry(font, rec, c, text);
-    told(buf, colour_at(c));
-}
 
-fn with_bytes(font: &[u8], rec: Record, c: &[u8], buf: &mut [u8]) {
-    let n = size_at(c, 32);
-    if buf.len() < n {
-        dry(font, rec, c, c);
-        return;
+    fn dry_unpacking(self, rt: &impl Print) -> io::Result<()> {
+        let Asked {
+            font,
+            rec,
+            mode,
+            call,
+            ..
+        } = self;
+        print!(rt; "dry run ")?;
+        let answer = glyphs::unpack_check(
+            font,
+            rec,
+            mode,
+            call.info(),
+            call.len(),
+            call.start(),
+            call.stride(),
+        );
+        unpacked(rt, answer)
     }
-    fill_bytes(buf);
-    let answer = glyphs::unpack_glyph(
-        font,
-        rec,
-        mode_at(c),
-        info_at(c),
-        &mut buf[0..n],
-        size_at(c, 40),
-        size_at(c, 48),
-    );
-    unpacked(answer);
-    say(b"; ");
-    dry(font, rec, c, c);
-    told_bytes(buf, colour_at(c));
-}
 
-// Why a character is on the glass or not, in a buffer of any length.
-fn reason(font: &[u8], rec: Record, c: &[u8]) {
-    say(b"; why ");
-    because(why::why(
-        font,
-        rec,
-        mode_at(c),
-        code_at(c),
-        size_at(c, 32),
-        size_at(c, 40),
-        size_at(c, 48),
-        size_at(c, 56),
-    ));
-}
-
-// The call with the buffer's first part lent to it, its dry run, and what changed in the whole buffer. Where there is
-// no buffer of that length, the dry run alone. Of a character the reason too.
-pub(crate) fn drawing(font: &[u8], rec: Record, c: &[u8], text: &[u8]) {
-    if kind_at(c) == UNPACK {
-        let mut bytes = [0u8; 4096];
-        with_bytes(font, rec, c, &mut bytes);
-    } else {
-        let mut pixels = [0u32; 4096];
-        with_pixels(font, rec, c, text, &mut pixels);
-    }
-    if kind_at(c) == CHAR {
-        reason(font, rec, c);
+    // As `pixels`, with bytes. One function for both would take the filling, the call and its dry run as closures, and
+    // be no shorter.
+    pub(crate) fn unpacking(self, rt: &impl Print) -> io::Result<()> {
+        let Asked {
+            font,
+            rec,
+            mode,
+            call,
+            ..
+        } = self;
+        let mut buf = [0u8; 4096];
+        fill_bytes(&mut buf);
+        let Some(lent) = buf.get_mut(..call.len()) else {
+            return self.dry_unpacking(rt);
+        };
+        let answer = glyphs::unpack_glyph(
+            font,
+            rec,
+            mode,
+            call.info(),
+            lent,
+            call.start(),
+            call.stride(),
+        );
+        unpacked(rt, answer)?;
+        print!(rt; "; ")?;
+        self.dry_unpacking(rt)?;
+        let colour = call.colour();
+        print!(rt; "; pixels {}", Changed { buf: &buf, colour })
     }
 }

@@ -4,57 +4,62 @@
 // bytes of texts follow it, and how many calls there are, 4 bytes each; then the font, the texts and the calls.
 #![tactic(auto)]
 
+ghost use Rattle.std.specs.Prelude.{◌≡◌, ◌-◌, length};
+
 mod answers;
+mod asked;
 mod calls;
 mod changes;
 mod drawing;
 mod putting;
 mod reading;
-mod record;
 mod runs;
+mod shown;
 
-use crate::calls::CALL;
+use crate::calls::Call;
 use crate::runs::font_calls;
-use names::{Span, part_of};
-use reads::{reach, u32_at};
+use console::{file_of_argument, has_argument};
+use reads::u32_at;
 use std::env::Env;
 use std::fs::Files;
+use std::io::Result;
 
 const HEAD: usize = 12;
 
-fn part(file: &[u8], start: usize, len: usize) -> &[u8] {
-    part_of(file, Span { start, len })
+// The first bytes, so many if there are, and the rest.
+fn cut(bytes: &[u8], len: usize) -> (&[u8], &[u8])
+    ensures { length result.1.now ≡ length bytes.now - len }
+{
+    bytes.split_at(len.min(bytes.len()))
 }
 
-fn all_fonts(file: &[u8]) {
-    let mut at = 0;
-    while at < file.len() {
-        let font = u32_at(file, at, 0, false) as usize;
-        let lent = font + u32_at(file, at, 4, false) as usize;
-        let count = u32_at(file, at, 8, false);
-        let start = reach(file.len(), at, HEAD);
-        let end = reach(file.len(), start, lent);
-        font_calls(
-            part(file, start, font),
-            part(file, start, lent),
-            &file[end..],
-            count,
-        );
-        at = reach(file.len(), end, CALL * count as usize);
+fn all_fonts(rt: &impl Print, file: &[u8]) -> Result<()> {
+    let mut left = file;
+    while !left.is_empty() {
+        let (head, body) = cut(left, HEAD);
+        let size = u32_at(head, 0, 0, false) as usize;
+        let texts = u32_at(head, 4, 0, false) as usize;
+        let count = u32_at(head, 8, 0, false) as usize;
+        let (lent, after) = cut(body, size + texts);
+        let (font, _) = cut(lent, size);
+        let (calls, next) = cut(after, Call::SIZE * count);
+        font_calls(rt, font, lent, calls)?;
+        left = next;
     }
+    Ok(())
 }
 
-fn named<R: Env + Files>(rt: &R, i: usize) {
-    let mut file = io::large_buffer();
-    let n = console::file_of_argument(rt, i, &mut file);
-    all_fonts(&file[..n]);
+// Up to 999 files, none of 65,536 bytes.
+fn all_files<R: Env + Files + Print>(rt: &R) -> Result<()> {
+    let mut file = [0u8; 65536];
+    for i in (1..1000).take_while(|i| has_argument(rt, *i)) {
+        let n = file_of_argument(rt, i, &mut file);
+        all_fonts(rt, &file[..n])?;
+    }
+    Ok(())
 }
 
-// Up to 999 files: the bound lets the loop be seen to end.
+// A write that fails ends it, and is not told.
 fn main(rt: HostRuntime) {
-    let mut i: usize = 1;
-    while i < 1000 && console::has_argument(&rt, i) {
-        named(&rt, i);
-        i += 1;
-    }
+    let _ = all_files(&rt);
 }

@@ -1,0 +1,5 @@
+use Rattle.console.proofs.Filling.{Filling}
+use Rattle.console.proofs.buffers.fill_pixels.Given as goal
+
+abbrev pub invariant-loop-i : goal.invariant-loop-i
+invariant-loop-i l = Filling l.initial.buf l.buf l.i
