@@ -1,27 +1,18 @@
 // What a program that answers one input reads and prints: the answer, or in a line why it has none.
-ghost use Rattle.std.specs.Prelude.{◌≡◌, ◌*◌, ◌<◌, IfOk, IsErrOf, IsTrue, is_err, vec_len};
+ghost use Rattle.std.specs.Prelude.{◌≡◌, ◌*◌, ◌<◌, length, IfOk};
 ghost use Rattle.console.specs.Asked.{number_in};
 
-use crate::files::read_full;
+use crate::output::QuietOutput;
 use reads::{Refusal, u32_at};
-use std::alloc::AllocError;
-use std::{fmt, io};
+use std::fmt;
 
-// Why there is no answer, or none that vetting agrees with. Only the last is no line of standard output, but an error of
-// the program.
+// Why there is no answer, or none that vetting agrees with.
 #[derive(Clone, Copy)]
 pub enum Trouble {
     Input,
     Font(Refusal),
     Text(Refusal),
     Vetting(Refusal),
-    Memory,
-}
-
-impl From<AllocError> for Trouble {
-    fn from(_error: AllocError) -> Trouble {
-        Trouble::Memory
-    }
 }
 
 // For a script: a refusal's number in two digits, its place, and what is refused.
@@ -32,7 +23,6 @@ impl fmt::Display for Trouble {
             Trouble::Font(r) => write!(f, "refused {:02} place {} font", r.number, r.place),
             Trouble::Text(r) => write!(f, "refused {:02} place {} text", r.number, r.place),
             Trouble::Vetting(r) => write!(f, "refused {:02} place {} vetting", r.number, r.place),
-            Trouble::Memory => write!(f, "out of memory"),
         }
     }
 }
@@ -41,15 +31,14 @@ impl fmt::Display for Trouble {
 #[derive(Clone, Copy)]
 pub struct UnknownKind;
 
-// Standard input, to its end or to a read that fails. One of `limit` bytes may be longer, and is not taken.
-pub fn input<R: Input + AllocGlobal>(rt: &R, limit: usize) -> Result<Vec<u8>, Trouble>
-    ensures { IfOk result (λ bytes. vec_len bytes < limit) }
+// Standard input, to its end or to a read that fails. One that fills the room may be longer, and is not taken.
+pub fn input(room: &mut [u8]) -> Result<&[u8], Trouble>
+    ensures { IfOk result (λ bytes. length bytes.now < length room.old) }
 {
-    let mut bytes = vec![in rt.alloc(); 0u8; limit]?;
-    let n = read_full(&mut rt.reader(), &mut bytes);
+    let limit = room.len();
+    let n = io::read_full(0, room);
     if n < limit {
-        bytes.truncate(n);
-        Ok(bytes)
+        Ok(&room[..n])
     } else {
         Err(Trouble::Input)
     }
@@ -69,13 +58,10 @@ pub fn area(width: u32, height: u32) -> usize
     width as usize * height as usize
 }
 
-// An answer, or the line of what was wrong; where memory ran out there is none, and the program ends as one that failed.
-pub fn print_answer(rt: &impl Print, answer: Result<String, Trouble>) -> io::Result<()>
-    ensures { IsErrOf answer Trouble.Memory → IsTrue (is_err result) }
-{
-    match answer {
-        Ok(text) => print!(rt; "{text}"),
-        Err(Trouble::Memory) => Err(AllocError.into()),
-        Err(trouble) => println!(rt; "{trouble}"),
-    }
+// An answer, or the line of what was wrong. Printing quietly has no error to tell.
+pub fn print_answer<A: fmt::Display + Drop>(answer: Result<A, Trouble>) {
+    let _ = match answer {
+        Ok(answer) => print!(QuietOutput; "{answer}"),
+        Err(trouble) => println!(QuietOutput; "{trouble}"),
+    };
 }

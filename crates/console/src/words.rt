@@ -17,7 +17,8 @@ impl fmt::Display for Refused {
     }
 }
 
-// Words on standard output without a format's `Result`, for what cannot fail: a write that fails is not told.
+// Words on standard output without a format's `Result`, for what cannot fail: a write that fails is not told. By the
+// kit's `io`, which stands on no more of the C library than `write`.
 pub(crate) fn say(text: &[u8]) {
     io::write_all(1, text);
 }

@@ -1,7 +1,7 @@
 // A page that is asked for. It begins with seven numbers of four bytes, the least significant first: the lengths of
 // its title and its text, how many pixels its buffer has, the stride, where lines wrap (nowhere, if every bit is
 // set), the scale, and the value that each pixel has before. The title and the text follow.
-ghost use Rattle.std.specs.Prelude.{◌≡◌, ◌≤◌, ◌-◌, length};
+ghost use Rattle.std.specs.Prelude.{◌≡◌, ◌≤◌, ◌-◌, length, take, drop};
 
 use crate::quoted::Quoted;
 use reads::u32_at;
@@ -23,7 +23,9 @@ pub(crate) struct Asked<'a> {
 
 // The first bytes, so many if there are, and the rest.
 pub(crate) fn cut(bytes: &[u8], len: usize) -> (&[u8], &[u8])
-    ensures { length result.1.now ≡ length bytes.now - len }
+    ensures first { result.0.now ≡ take len bytes.now }
+    ensures rest { result.1.now ≡ drop len bytes.now }
+    ensures left { length result.1.now ≡ length bytes.now - len }
 {
     bytes.split_at(len.min(bytes.len()))
 }

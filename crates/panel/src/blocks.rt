@@ -1,8 +1,8 @@
 // A panel in half blocks: a character has two pixels, one above the other.
-ghost use Rattle.std.specs.Prelude.{◌≡◌, ◌≤◌};
+ghost use Rattle.std.specs.Prelude.{◌≡◌, ◌≤◌, get_or};
 ghost use Rattle.panel.specs.Blocks.{block};
 
-use std::alloc::AllocError;
+use std::fmt;
 
 // The character for two pixels, a space for two clear ones.
 #[tactic(auto, unfolding(crate::specs::Blocks::block))]
@@ -17,23 +17,36 @@ fn block(upper: u32, lower: u32) -> &'static str
     }
 }
 
+// A pixel of a row, 0 beyond its last one.
+fn pixel_at(row: &[u32], x: usize) -> u32
+    ensures { result ≡ get_or row.now x 0 }
+{
+    row.get(x).copied().unwrap_or(0)
+}
+
 // Two rows in a line. Where there is no lower one, its pixels are 0.
-fn push_line(out: &mut String, upper: &[u32], lower: &[u32]) -> Result<(), AllocError> {
+fn write_line<W: fmt::Write>(
+    f: &mut fmt::Formatter<W>,
+    upper: &[u32],
+    lower: &[u32],
+) -> fmt::Result {
     for (x, pixel) in upper.iter().enumerate() {
-        let below = lower.get(x).copied().unwrap_or(0);
-        out.push_str(block(*pixel, below))?;
+        f.write_str(block(*pixel, pixel_at(lower, x)))?;
     }
-    out.push('\n')?;
-    Ok(())
+    f.write_char('\n')
 }
 
 // All rows, two a line.
-pub(crate) fn push_blocks(out: &mut String, pixels: &[u32], width: usize) -> Result<(), AllocError>
+pub(crate) fn write_blocks<W: fmt::Write>(
+    f: &mut fmt::Formatter<W>,
+    pixels: &[u32],
+    width: usize,
+) -> fmt::Result
     requires { (1 ≤ width) × (width ≤ 65535) }
 {
     for rows in pixels.chunks(2 * width) {
         let (upper, lower) = rows.split_at_checked(width).unwrap_or((rows, &[]));
-        push_line(out, upper, lower)?;
+        write_line(f, upper, lower)?;
     }
     Ok(())
 }

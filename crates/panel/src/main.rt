@@ -11,19 +11,20 @@ ghost use Rattle.std.specs.Prelude.{◌≡◌, ◌≤◌, length};
 ghost use Rattle.panel.specs.Asked.{Sized};
 
 use crate::asked::{HEAD, Kind, Request, asked_of};
-use crate::blocks::push_blocks;
-use crate::picture::push_picture;
-use crate::served::push_served;
+use crate::blocks::write_blocks;
+use crate::picture::write_picture;
+use crate::served::write_served;
 use console::{Trouble, input, print_answer};
-use std::alloc::{AllocError, Global};
-use std::io;
+use std::fmt;
 use tables::EncodingData;
 use text::{TextDrawn, TextRows, draw_string};
 use vet::Vetted;
 
-// A byte more than those that are asked with, 65,536 of a text, which is one more than the library takes, and 573,440
-// of a font.
-const LIMIT: usize = HEAD + 65536 + 573440 + 1;
+// What is asked, 65,536 bytes of a text, which is one more than the library takes, 573,440 of a font, and a byte by
+// which a longer input is seen.
+const ROOM: usize = HEAD + 65536 + 573440 + 1;
+
+const PIXELS: usize = 65536;
 
 const COLOUR: u32 = 1;
 
@@ -49,42 +50,74 @@ fn drawn(
     }
 }
 
-// The panel in half blocks; what the text lost and how high it is, what the default code shows, and what the font
-// lacks.
-fn push_panel(
-    out: &mut String,
-    r: Request,
-    text: &[u8],
-    font: &[u8],
+// What is printed of a request: the panel and, where it is in half blocks, what the text lost and how high it is, what
+// the default code shows, and what the font lacks.
+#[derive(Drop)]
+struct Printout<'a> {
+    request: Request,
+    text: &'a [u8],
+    font: &'a [u8],
     codes: EncodingData,
-    pixels: &[u32],
+    pixels: &'a [u32],
     rows: TextRows,
-) -> Result<(), AllocError>
-    requires { Sized r }
-{
-    push_blocks(out, pixels, r.width)?;
-    writeln!(out, "dropped {} height {}", rows.dropped, rows.height)?;
-    push_served(out, text, font, codes, r.mode)
+    ghost sized: { Sized request },
 }
 
-// What is printed of an input.
-fn shown(alloc: Global, input: &[u8]) -> Result<String, Trouble> {
-    let r = asked_of(input).ok_or(Trouble::Input)?;
-    let (text, font) = input[HEAD..].split_at(r.text as usize);
-    let mut pixels = vec![in alloc; 0u32; r.len]?;
-    let (rows, codes) = drawn(r, text, font, &mut pixels)?;
-    let mut out = String::new(alloc);
-    match r.kind {
-        Kind::Blocks => push_panel(&mut out, r, text, font, codes, &pixels, rows)?,
-        Kind::Picture => push_picture(&mut out, &pixels, r.width, r.height)?,
+impl fmt::Display for Printout<'_> {
+    fn fmt<W: fmt::Write>(&self, f: &mut fmt::Formatter<W>) -> fmt::Result {
+        let r = self.request;
+        let rows = self.rows;
+        match r.kind {
+            Kind::Blocks => {
+                write_blocks(f, self.pixels, r.width)?;
+                writeln!(f, "dropped {} height {}", rows.dropped, rows.height)?;
+                write_served(f, self.text, self.font, self.codes, r.mode)
+            }
+            Kind::Picture => write_picture(f, self.pixels, r.width, r.height),
+        }
     }
-    Ok(out)
 }
 
-fn answer(rt: &(impl Input + AllocGlobal)) -> Result<String, Trouble> {
-    shown(rt.alloc(), &input(rt, LIMIT)?)
+// What is printed of an input. The panel's pixels are the first of these, all of them 0.
+fn shown<'a>(input: &'a [u8], room: &'a mut [u32; PIXELS]) -> Result<Printout<'a>, Trouble> {
+    let request = asked_of(input).ok_or(Trouble::Input)?;
+    let (text, font) = input[HEAD..].split_at(request.text as usize);
+    let pixels = &mut room[..request.len];
+    let (rows, codes) = drawn(request, text, font, pixels)?;
+    Ok(Printout {
+        request,
+        text,
+        font,
+        codes,
+        pixels,
+        rows,
+    })
 }
 
-fn main(rt: HostRuntime) -> io::Result<()> {
-    print_answer(&rt, answer(&rt))
+fn answer<'a>(
+    room: &'a mut [u8; ROOM],
+    pixels: &'a mut [u32; PIXELS],
+) -> Result<Printout<'a>, Trouble> {
+    shown(input(room)?, pixels)
+}
+
+// Room for the input and a byte more: an array, as a program that allocates could run out of memory. Its length comes
+// from a law: to count so far passes the prover's stack on some machines.
+fn room() -> [u8; ROOM]
+    ensures { 639009 ≡ length result }
+{
+    [0; ROOM]
+}
+
+// A clear panel.
+fn clear() -> [u32; PIXELS]
+    ensures { 65536 ≡ length result }
+{
+    [0; PIXELS]
+}
+
+fn main() {
+    let mut input = room();
+    let mut pixels = clear();
+    print_answer(answer(&mut input, &mut pixels));
 }

@@ -2,7 +2,7 @@
 ghost use Rattle.std.specs.Prelude.{◌≡◌, ◌≤◌};
 ghost use Rattle.panel.specs.Picture.{digit};
 
-use std::alloc::AllocError;
+use std::fmt;
 
 // The format's lines have at most 70 characters.
 const LINE: usize = 64;
@@ -16,27 +16,27 @@ fn digit(pixel: u32) -> char
 }
 
 // A row's pixels, in as many lines as they take.
-fn push_row(out: &mut String, row: &[u32]) -> Result<(), AllocError> {
+fn write_row<W: fmt::Write>(f: &mut fmt::Formatter<W>, row: &[u32]) -> fmt::Result {
     for line in row.chunks(LINE) {
         for pixel in line {
-            out.push(digit(*pixel))?;
+            f.write_char(digit(*pixel))?;
         }
-        out.push('\n')?;
+        f.write_char('\n')?;
     }
     Ok(())
 }
 
-pub(crate) fn push_picture(
-    out: &mut String,
+pub(crate) fn write_picture<W: fmt::Write>(
+    f: &mut fmt::Formatter<W>,
     pixels: &[u32],
     width: usize,
     height: usize,
-) -> Result<(), AllocError>
+) -> fmt::Result
     requires { 1 ≤ width }
 {
-    writeln!(out, "P1\n{width} {height}")?;
+    writeln!(f, "P1\n{width} {height}")?;
     for row in pixels.chunks(width) {
-        push_row(out, row)?;
+        write_row(f, row)?;
     }
     Ok(())
 }

@@ -6,7 +6,7 @@ ghost use Rattle.panel.specs.Served.{wants_glyph, lacked, by_default, CountsDefa
 use console::{Characters, Code, seen};
 use lookup::{Served, serve};
 use modes::Mode;
-use std::alloc::AllocError;
+use std::fmt;
 use tables::EncodingData;
 
 // Whether a character is looked up, as all are but newline and carriage return.
@@ -49,45 +49,45 @@ fn default_count(text: &[u8], font: &[u8], codes: EncodingData, mode: Mode) -> u
 }
 
 // A space, and the character or, where it would not be seen, its code. So there are as many spaces as characters.
-fn push_name(out: &mut String, code: u32) -> Result<(), AllocError> {
+fn write_name<W: fmt::Write>(f: &mut fmt::Formatter<W>, code: u32) -> fmt::Result {
     match seen(code) {
-        Some(character) => write!(out, " {character}"),
-        None => write!(out, " {}", Code(code)),
+        Some(character) => write!(f, " {character}"),
+        None => write!(f, " {}", Code(code)),
     }
 }
 
 // The names of the characters that are served so: each occurrence, in the text's order. The text was drawn, so it is
 // UTF-8 to its end.
-fn push_names<F: Fn(u32, Served) -> bool + Drop>(
-    out: &mut String,
+fn write_names<W: fmt::Write, F: Fn(u32, Served) -> bool + Drop>(
+    f: &mut fmt::Formatter<W>,
     text: &[u8],
     font: &[u8],
     codes: EncodingData,
     mode: Mode,
     is_named: F,
-) -> Result<(), AllocError>
+) -> fmt::Result
     requires { F.IsAlwaysCallable is_named }
 {
     for code in (Characters { text, at: 0 }) {
         if is_named(code.0, serve(font, codes, mode, code)) {
-            push_name(out, code.0)?;
+            write_name(f, code.0)?;
         }
     }
     Ok(())
 }
 
 // A line of those that the default code shows: how many there are, that code, and each; and a line of those skipped.
-pub(crate) fn push_served(
-    out: &mut String,
+pub(crate) fn write_served<W: fmt::Write>(
+    f: &mut fmt::Formatter<W>,
     text: &[u8],
     font: &[u8],
     codes: EncodingData,
     mode: Mode,
-) -> Result<(), AllocError> {
+) -> fmt::Result {
     let count = default_count(text, font, codes, mode);
-    write!(out, "default {count} {}", Code(codes.default as u32))?;
-    push_names(out, text, font, codes, mode, by_default)?;
-    write!(out, "\nskipped")?;
-    push_names(out, text, font, codes, mode, lacked)?;
-    writeln!(out)
+    write!(f, "default {count} {}", Code(codes.default as u32))?;
+    write_names(f, text, font, codes, mode, by_default)?;
+    write!(f, "\nskipped")?;
+    write_names(f, text, font, codes, mode, lacked)?;
+    writeln!(f)
 }

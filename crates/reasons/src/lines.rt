@@ -2,35 +2,35 @@
 // are drawn whole.
 use crate::asked::Request;
 use crate::character::Character;
-use crate::words::push_reason;
-use console::Characters;
+use crate::words::write_reason;
+use console::{Characters, Refused};
 use reads::CharCode;
-use std::alloc::AllocError;
+use std::fmt;
 use tables::Record;
 use why::{Reason, Told, why};
 
 // A code's line, and whether it is drawn whole.
-pub(crate) fn push_code(
-    out: &mut String,
+pub(crate) fn write_code<W: fmt::Write>(
+    f: &mut fmt::Formatter<W>,
     r: Request,
     font: &[u8],
     rec: Record,
     code: CharCode,
-) -> Result<bool, AllocError> {
+) -> Result<bool, fmt::Error> {
     let character = Character(code.0);
     match why(font, rec, r.mode, code, r.len, r.start, r.stride, r.scale) {
         Told::Because(reason, by) => {
-            write!(out, "{character}")?;
+            write!(f, "{character}")?;
             if by.is_default {
-                write!(out, ", by the default character {}", Character(by.code.0))?;
+                write!(f, ", by the default character {}", Character(by.code.0))?;
             }
-            write!(out, ": ")?;
-            push_reason(out, r, font, rec, by.code, reason)?;
-            writeln!(out)?;
+            write!(f, ": ")?;
+            write_reason(f, r, font, rec, by.code, reason)?;
+            writeln!(f)?;
             Ok(matches!(reason, Reason::Drawn))
         }
         Told::Refused(no) => {
-            writeln!(out, "{character}: refused {} at {}", no.number, no.place)?;
+            writeln!(f, "{character}: {}", Refused(no))?;
             Ok(false)
         }
     }
@@ -46,18 +46,18 @@ fn control(code: CharCode) -> Option<&'static str> {
 }
 
 // Every character's line, and whether all that are looked up are drawn whole. The text is UTF-8 to its end.
-pub(crate) fn push_text(
-    out: &mut String,
+pub(crate) fn write_text<W: fmt::Write>(
+    f: &mut fmt::Formatter<W>,
     r: Request,
     text: &[u8],
     font: &[u8],
     rec: Record,
-) -> Result<bool, AllocError> {
+) -> Result<bool, fmt::Error> {
     let mut whole = true;
     for code in (Characters { text, at: 0 }) {
         match control(code) {
-            Some(said) => writeln!(out, "{}: {said}", Character(code.0))?,
-            None => whole &= push_code(out, r, font, rec, code)?,
+            Some(said) => writeln!(f, "{}: {said}", Character(code.0))?,
+            None => whole &= write_code(f, r, font, rec, code)?,
         }
     }
     Ok(whole)

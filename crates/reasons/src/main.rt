@@ -10,20 +10,21 @@ mod lines;
 mod picture;
 mod words;
 
-use crate::asked::{HEAD, Kind, asked_of};
-use crate::lines::{push_code, push_text};
+ghost use Rattle.std.specs.Prelude.{◌≡◌, length};
+
+use crate::asked::{HEAD, Kind, Request, asked_of};
+use crate::lines::{write_code, write_text};
 use console::{Trouble, input, print_answer};
 use load::Loaded;
 use outcome::ok_place;
-use std::alloc::Global;
-use std::io;
+use std::fmt;
 use tables::{Permit, Record, guard, record_fits};
 use utf8::Checked;
 use vet::Vetted;
 
-// A byte more than those that are asked with, 65,536 of a text, which is one more than the library takes, and 573,440
-// of a font.
-const LIMIT: usize = HEAD + 65536 + 573440 + 1;
+// What is asked, 65,536 bytes of a text, which is one more than the library takes, 573,440 of a font, and a byte by
+// which a longer input is seen.
+const ROOM: usize = HEAD + 65536 + 573440 + 1;
 
 fn loaded(font: &[u8]) -> Result<Record, Trouble> {
     match load::load_pcf(font) {
@@ -48,36 +49,64 @@ fn checked(text: &[u8]) -> Result<(), Trouble> {
     }
 }
 
+// What is printed of a request. The text is UTF-8, and the record the font's.
+#[derive(Drop)]
+struct Printout<'a> {
+    request: Request,
+    text: &'a [u8],
+    font: &'a [u8],
+    rec: Record,
+}
+
+impl fmt::Display for Printout<'_> {
+    fn fmt<W: fmt::Write>(&self, f: &mut fmt::Formatter<W>) -> fmt::Result {
+        let r = self.request;
+        if let Vetted::Refused(no) = vet::vet(self.font) {
+            writeln!(f, "{}", Trouble::Vetting(no))?;
+        }
+        let whole = match r.kind {
+            Kind::Characters => write_text(f, r, self.text, self.font, self.rec)?,
+            Kind::Code => write_code(f, r, self.font, self.rec, r.code)?,
+        };
+        f.write_str(if whole {
+            "all drawn\n"
+        } else {
+            "not all drawn\n"
+        })
+    }
+}
+
 // What is printed of an input.
-fn told(alloc: Global, input: &[u8]) -> Result<String, Trouble> {
-    let r = asked_of(input).ok_or(Trouble::Input)?;
-    let (text, font) = input[HEAD..].split_at(r.text as usize);
+fn told(input: &[u8]) -> Result<Printout<'_>, Trouble> {
+    let request = asked_of(input).ok_or(Trouble::Input)?;
+    let (text, font) = input[HEAD..].split_at(request.text as usize);
     let rec = loaded(font)?;
     permitted(guard(
         record_fits(font.len(), rec),
-        ok_place(r.start, r.stride, r.scale),
+        ok_place(request.start, request.stride, request.scale),
     ))?;
     checked(text)?;
-    let mut out = String::new(alloc);
-    if let Vetted::Refused(no) = vet::vet(font) {
-        writeln!(out, "{}", Trouble::Vetting(no))?;
-    }
-    let whole = match r.kind {
-        Kind::Characters => push_text(&mut out, r, text, font, rec)?,
-        Kind::Code => push_code(&mut out, r, font, rec, r.code)?,
-    };
-    out.push_str(if whole {
-        "all drawn\n"
-    } else {
-        "not all drawn\n"
-    })?;
-    Ok(out)
+    Ok(Printout {
+        request,
+        text,
+        font,
+        rec,
+    })
 }
 
-fn answer(rt: &(impl Input + AllocGlobal)) -> Result<String, Trouble> {
-    told(rt.alloc(), &input(rt, LIMIT)?)
+fn answer(room: &mut [u8; ROOM]) -> Result<Printout<'_>, Trouble> {
+    told(input(room)?)
 }
 
-fn main(rt: HostRuntime) -> io::Result<()> {
-    print_answer(&rt, answer(&rt))
+// Room for the input and a byte more: an array, as a program that allocates could run out of memory. Its length comes
+// from a law: to count so far passes the prover's stack on some machines.
+fn room() -> [u8; ROOM]
+    ensures { 639013 ≡ length result }
+{
+    [0; ROOM]
+}
+
+fn main() {
+    let mut input = room();
+    print_answer(answer(&mut input));
 }

@@ -4,7 +4,6 @@ use bitmaps::{offset_of, row_stride};
 use glyphs::place_of;
 use outcome::ok_place;
 use place::GlyphInfo;
-use std::alloc::AllocError;
 use std::fmt;
 use tables::BitmapData;
 use why::Reason;
@@ -65,141 +64,141 @@ fn passes_line(first: usize, width: u16, start: usize, stride: usize, scale: usi
 }
 
 // As `5 by 7 pixels from pixel 74 on`, or `5 by 7 pixels at scale 2 from pixel 74 on`.
-fn push_place(
-    out: &mut String,
+fn write_place<W: fmt::Write>(
+    f: &mut fmt::Formatter<W>,
     r: Request,
     info: GlyphInfo,
     first: usize,
-) -> Result<(), AllocError> {
-    write!(
-        out,
-        "{}{} from pixel {first} on",
-        Size(info),
-        Scaled(r.scale)
-    )
+) -> fmt::Result {
+    write!(f, "{}{} from pixel {first} on", Size(info), Scaled(r.scale))
 }
 
 // Adds that a glyph runs past its line's right end, if it does.
-fn push_passing(
-    out: &mut String,
+fn write_passing<W: fmt::Write>(
+    f: &mut fmt::Formatter<W>,
     r: Request,
     info: GlyphInfo,
     first: usize,
-) -> Result<(), AllocError> {
+) -> fmt::Result {
     if passes_line(first, info.width, r.start, r.stride, r.scale) {
-        out.push_str(", and it runs past the right end of its line")?;
+        f.write_str(", and it runs past the right end of its line")?;
     }
     Ok(())
 }
 
-fn push_data(
-    out: &mut String,
+fn write_data<W: fmt::Write>(
+    f: &mut fmt::Formatter<W>,
     font: &[u8],
     b: BitmapData,
     info: GlyphInfo,
-) -> Result<(), AllocError> {
+) -> fmt::Result {
     let step = row_stride(info.width, b.pad) as usize;
     let from = offset_of(font, b, info.glyph);
     let (size, row) = (Size(info), Count(step, "byte"));
     write!(
-        out,
+        f,
         "refusal 14: its bitmap, {size} in rows of {row}, begins at byte {from} "
     )?;
-    write!(out, "of the font's bitmap data, which has {} bytes", b.size)
+    write!(f, "of the font's bitmap data, which has {} bytes", b.size)
 }
 
 // The whole lines that are left for a glyph and, above scale 1, for how many of its rows they count.
-fn push_lines(out: &mut String, r: Request, first: usize, rows: usize) -> Result<(), AllocError> {
+fn write_lines<W: fmt::Write>(
+    f: &mut fmt::Formatter<W>,
+    r: Request,
+    first: usize,
+    rows: usize,
+) -> fmt::Result {
     let lines = whole_lines(r.len, first, r.stride);
     let have = if r.len == 1 { "has" } else { "have" };
     let pixels = Count(r.len, "pixel");
-    write!(out, "from pixel {first} on the panel's {pixels} {have} ")?;
+    write!(f, "from pixel {first} on the panel's {pixels} {have} ")?;
     if lines == 0 {
-        return write!(out, "no whole line of {} left", r.stride);
+        return write!(f, "no whole line of {} left", r.stride);
     }
-    write!(out, "{} of {} left", Count(lines, "whole line"), r.stride)?;
+    write!(f, "{} of {} left", Count(lines, "whole line"), r.stride)?;
     if r.scale != 1 {
         let count = if lines == 1 { "counts" } else { "count" };
-        write!(out, ", which {count} for ")?;
+        write!(f, ", which {count} for ")?;
         match rows {
-            0 => out.push_str("no row")?,
-            _ => write!(out, "{rows} rows")?,
+            0 => f.write_str("no row")?,
+            _ => write!(f, "{rows} rows")?,
         }
     }
     Ok(())
 }
 
 // Where no row is left, none runs past its line.
-fn push_cut(
-    out: &mut String,
+fn write_cut<W: fmt::Write>(
+    f: &mut fmt::Formatter<W>,
     r: Request,
     info: GlyphInfo,
     first: usize,
     cut: u16,
-) -> Result<(), AllocError> {
+) -> fmt::Result {
     let are = if cut == 1 { "is" } else { "are" };
     let height = info.height;
     write!(
-        out,
+        f,
         "{cut} of its {height} rows {are} cut{}: ",
         Scaled(r.scale)
     )?;
     if r.len <= first {
         write!(
-            out,
+            f,
             "it begins at pixel {first}, beyond the end of the panel, which has "
         )?;
-        return write!(out, "{}", Count(r.len, "pixel"));
+        return write!(f, "{}", Count(r.len, "pixel"));
     }
     let rows = height.saturating_sub(cut) as usize;
-    push_lines(out, r, first, rows)?;
+    write_lines(f, r, first, rows)?;
     if rows != 0 {
-        push_passing(out, r, info, first)?;
+        write_passing(f, r, info, first)?;
     }
     Ok(())
 }
 
 // A picture without width or height has no pixel that could be set.
-fn push_blank(out: &mut String, info: GlyphInfo) -> Result<(), AllocError> {
-    write!(out, "blank, as a space is: ")?;
+fn write_blank<W: fmt::Write>(f: &mut fmt::Formatter<W>, info: GlyphInfo) -> fmt::Result {
+    write!(f, "blank, as a space is: ")?;
     if (info.width == 0) | (info.height == 0) {
-        write!(out, "its bitmap is {}", Size(info))
+        write!(f, "its bitmap is {}", Size(info))
     } else {
-        write!(out, "none of its {} is set", Size(info))
+        write!(f, "none of its {} is set", Size(info))
     }
 }
 
-fn push_short(
-    out: &mut String,
+fn write_short<W: fmt::Write>(
+    f: &mut fmt::Formatter<W>,
     r: Request,
     info: GlyphInfo,
     first: usize,
-) -> Result<(), AllocError> {
-    write!(out, "refusal 16: ")?;
-    push_place(out, r, info, first)?;
-    write!(out, " pass the end of the panel, which has ")?;
-    write!(out, "{} in lines of {}", Count(r.len, "pixel"), r.stride)
+) -> fmt::Result {
+    write!(f, "refusal 16: ")?;
+    write_place(f, r, info, first)?;
+    write!(f, " pass the end of the panel, which has ")?;
+    write!(f, "{} in lines of {}", Count(r.len, "pixel"), r.stride)
 }
 
 // The reasons before these are said elsewhere. They have their names here, so that a new one is not forgotten.
-pub(crate) fn push_picture(
-    out: &mut String,
+pub(crate) fn write_picture<W: fmt::Write>(
+    f: &mut fmt::Formatter<W>,
     r: Request,
     font: &[u8],
     b: BitmapData,
     info: GlyphInfo,
     reason: Reason,
-) -> Result<(), AllocError> {
+) -> fmt::Result {
     let first = first_pixel(info, r.start, r.stride, r.scale);
     match reason {
-        Reason::BitmapShort => push_data(out, font, b, info),
-        Reason::BufferShort => push_short(out, r, info, first),
-        Reason::RowsCut(cut) => push_cut(out, r, info, first, cut),
-        Reason::Blank => push_blank(out, info),
+        Reason::BitmapShort => write_data(f, font, b, info),
+        Reason::BufferShort => write_short(f, r, info, first),
+        Reason::RowsCut(cut) => write_cut(f, r, info, first, cut),
+        Reason::Blank => write_blank(f, info),
         Reason::Drawn => {
-            write!(out, "drawn: ")?;
-            push_place(out, r, info, first)?;
-            push_passing(out, r, info, first)
+            write!(f, "drawn: ")?;
+            write_place(f, r, info, first)?;
+            write_passing(f, r, info, first)
         }
         Reason::AboveCodes | Reason::FirstByte | Reason::SecondByte | Reason::EmptyEntry => Ok(()),
         Reason::NoMetrics | Reason::BadMetrics | Reason::NoBitmap | Reason::BitOrder => Ok(()),

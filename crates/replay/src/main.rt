@@ -4,7 +4,7 @@
 // bytes of texts follow it, and how many calls there are, 4 bytes each; then the font, the texts and the calls.
 #![tactic(auto)]
 
-ghost use Rattle.std.specs.Prelude.{◌≡◌, ◌-◌, length};
+ghost use Rattle.std.specs.Prelude.{◌≡◌, ◌-◌, length, take, drop};
 
 mod answers;
 mod asked;
@@ -18,7 +18,7 @@ mod shown;
 
 use crate::calls::Call;
 use crate::runs::font_calls;
-use console::{file_of_argument, has_argument};
+use console::{QuietOutput, file_of_argument, has_argument};
 use reads::u32_at;
 use std::env::Env;
 use std::fs::Files;
@@ -28,7 +28,9 @@ const HEAD: usize = 12;
 
 // The first bytes, so many if there are, and the rest.
 fn cut(bytes: &[u8], len: usize) -> (&[u8], &[u8])
-    ensures { length result.1.now ≡ length bytes.now - len }
+    ensures first { result.0.now ≡ take len bytes.now }
+    ensures rest { result.1.now ≡ drop len bytes.now }
+    ensures left { length result.1.now ≡ length bytes.now - len }
 {
     bytes.split_at(len.min(bytes.len()))
 }
@@ -50,16 +52,16 @@ fn all_fonts(rt: &impl Print, file: &[u8]) -> Result<()> {
 }
 
 // Up to 999 files, none of 65,536 bytes.
-fn all_files<R: Env + Files + Print>(rt: &R) -> Result<()> {
+fn all_files<R: Env + Files>(rt: &R, out: &impl Print) -> Result<()> {
     let mut file = [0u8; 65536];
     for i in (1..1000).take_while(|i| has_argument(rt, *i)) {
         let n = file_of_argument(rt, i, &mut file);
-        all_fonts(rt, &file[..n])?;
+        all_fonts(out, &file[..n])?;
     }
     Ok(())
 }
 
-// A write that fails ends it, and is not told.
+// A write that fails is not told, and what follows is written all the same.
 fn main(rt: HostRuntime) {
-    let _ = all_files(&rt);
+    let _ = all_files(&rt, &QuietOutput);
 }
