@@ -8,10 +8,10 @@ pub(crate) struct Character(pub(crate) u32);
 
 impl fmt::Display for Character {
     fn fmt<W: fmt::Write>(&self, f: &mut fmt::Formatter<W>) -> fmt::Result {
-        let code = Code(self.0);
+        write!(f, "{}", Code(self.0))?;
         match seen(self.0) {
-            Some(character) => write!(f, "{code} {character}"),
-            None => write!(f, "{code}"),
+            Some(character) => write!(f, " {character}"),
+            None => Ok(()),
         }
     }
 }

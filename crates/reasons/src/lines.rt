@@ -20,11 +20,12 @@ pub(crate) fn write_code<W: fmt::Write>(
     let character = Character(code.0);
     match why(font, rec, r.mode, code, r.len, r.start, r.stride, r.scale) {
         Told::Because(reason, by) => {
-            write!(f, "{character}")?;
             if by.is_default {
-                write!(f, ", by the default character {}", Character(by.code.0))?;
+                let default = Character(by.code.0);
+                write!(f, "{character}, by the default character {default}: ")?;
+            } else {
+                write!(f, "{character}: ")?;
             }
-            write!(f, ": ")?;
             write_reason(f, r, font, rec, by.code, reason)?;
             writeln!(f)?;
             Ok(matches!(reason, Reason::Drawn))
