@@ -16,9 +16,9 @@ sys.path.insert(0, os.path.dirname(os.path.dirname(os.path.abspath(__file__))))
 from common import ROOT  # noqa: E402
 from contracts.functions import exported_functions, public_functions  # noqa: E402
 
-# Functions that answer what they read from outside: they have an `ensures`, and no theorem. One that answers yes or no
-# to what is there has nothing that could be said of its answer.
-READING = {("console", "file_of_argument"), ("console", "input")}
+# Functions that answer what they read from outside, or whether what they print is taken: they have an `ensures`, and no
+# theorem. One that answers yes or no to what is there has nothing that could be said of its answer.
+READING = {("console", name) for name in ("file_of_argument", "input", "input_into", "print_answer")}
 ASKING = {("console", "has_argument")}
 
 

@@ -8,7 +8,7 @@ use std::fmt;
 
 // Why there is no answer, or none that vetting agrees with.
 #[derive(Clone, Copy)]
-pub enum Trouble {
+pub enum Fault {
     Input,
     Font(Refusal),
     Text(Refusal),
@@ -16,13 +16,13 @@ pub enum Trouble {
 }
 
 // For a script: a refusal's number in two digits, its place, and what is refused.
-impl fmt::Display for Trouble {
+impl fmt::Display for Fault {
     fn fmt<W: fmt::Write>(&self, f: &mut fmt::Formatter<W>) -> fmt::Result {
         match self {
-            Trouble::Input => write!(f, "bad input"),
-            Trouble::Font(r) => write!(f, "refused {:02} place {} font", r.number, r.place),
-            Trouble::Text(r) => write!(f, "refused {:02} place {} text", r.number, r.place),
-            Trouble::Vetting(r) => write!(f, "refused {:02} place {} vetting", r.number, r.place),
+            Fault::Input => write!(f, "bad input"),
+            Fault::Font(r) => write!(f, "refused {:02} place {} font", r.number, r.place),
+            Fault::Text(r) => write!(f, "refused {:02} place {} text", r.number, r.place),
+            Fault::Vetting(r) => write!(f, "refused {:02} place {} vetting", r.number, r.place),
         }
     }
 }
@@ -32,7 +32,7 @@ impl fmt::Display for Trouble {
 pub struct UnknownKind;
 
 // Standard input, to its end or to a read that fails. One that fills the room may be longer, and is not taken.
-pub fn input(room: &mut [u8]) -> Result<&[u8], Trouble>
+pub fn input_into(room: &mut [u8]) -> Result<&[u8], Fault>
     ensures { IfOk result (λ bytes. length bytes.now < length room.old) }
 {
     let limit = room.len();
@@ -40,7 +40,7 @@ pub fn input(room: &mut [u8]) -> Result<&[u8], Trouble>
     if n < limit {
         Ok(&room[..n])
     } else {
-        Err(Trouble::Input)
+        Err(Fault::Input)
     }
 }
 
@@ -59,9 +59,9 @@ pub fn area(width: u32, height: u32) -> usize
 }
 
 // An answer, or the line of what was wrong. Printing quietly has no error to tell.
-pub fn print_answer<A: fmt::Display + Drop>(answer: Result<A, Trouble>) {
+pub fn print_quietly<A: fmt::Display + Drop>(answer: Result<A, Fault>) {
     let _ = match answer {
         Ok(answer) => print!(QuietOutput; "{answer}"),
-        Err(trouble) => println!(QuietOutput; "{trouble}"),
+        Err(fault) => println!(QuietOutput; "{fault}"),
     };
 }

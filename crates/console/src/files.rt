@@ -22,7 +22,7 @@ pub fn has_argument<R: Env>(rt: &R, i: usize) -> bool {
 }
 
 // Reads until `out` is full, the file ends or a read fails.
-fn read_full<F: Read>(file: &mut F, out: &mut [u8]) -> usize
+pub(crate) fn read_full<F: Read>(file: &mut F, out: &mut [u8]) -> usize
     ensures { IsPrefixLen result out.new }
 {
     let mut done = 0;

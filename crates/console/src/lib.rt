@@ -8,12 +8,16 @@ mod characters;
 mod codes;
 mod files;
 mod output;
+mod runtime;
+#[cfg(test)]
+mod tests;
 mod words;
 
-pub use answers::{Trouble, UnknownKind, area, input, number_in, print_answer};
+pub use answers::{Fault, UnknownKind, area, input_into, number_in, print_quietly};
 pub use buffers::{Changed, fill_bytes, fill_pixels};
 pub use characters::{Characters, Code, seen};
 pub use codes::unseen;
 pub use files::{file_of_argument, has_argument};
 pub use output::QuietOutput;
+pub use runtime::{Trouble, input, print_answer};
 pub use words::Refused;

@@ -14,7 +14,7 @@ use crate::asked::{HEAD, Kind, Request, asked_of};
 use crate::blocks::write_blocks;
 use crate::picture::write_picture;
 use crate::served::write_served;
-use console::{Trouble, input, print_answer};
+use console::{Fault, input_into, print_quietly};
 use std::fmt;
 use tables::EncodingData;
 use text::{TextDrawn, TextRows, draw_string};
@@ -34,19 +34,19 @@ fn drawn(
     text: &[u8],
     font: &[u8],
     panel: &mut [u32],
-) -> Result<(TextRows, EncodingData), Trouble>
+) -> Result<(TextRows, EncodingData), Fault>
     ensures { length panel.new ≡ length panel.old }
 {
     let rec = match vet::vet(font) {
         Vetted::Passed(rec) => rec,
-        Vetted::Refused(no) => return Err(Trouble::Font(no)),
+        Vetted::Refused(no) => return Err(Fault::Font(no)),
     };
     let codes = rec.codes;
     match draw_string(
         font, rec, r.mode, text, panel, 0, r.wrap, r.width, r.scale, COLOUR,
     ) {
         TextDrawn::Done(rows) => Ok((rows, codes)),
-        TextDrawn::Refused(no) => Err(Trouble::Text(no)),
+        TextDrawn::Refused(no) => Err(Fault::Text(no)),
     }
 }
 
@@ -79,8 +79,8 @@ impl fmt::Display for Printout<'_> {
 }
 
 // What is printed of an input. The panel's pixels are the first of these, all of them 0.
-fn shown<'a>(input: &'a [u8], room: &'a mut [u32; PIXELS]) -> Result<Printout<'a>, Trouble> {
-    let request = asked_of(input).ok_or(Trouble::Input)?;
+fn shown<'a>(input: &'a [u8], room: &'a mut [u32; PIXELS]) -> Result<Printout<'a>, Fault> {
+    let request = asked_of(input).ok_or(Fault::Input)?;
     let (text, font) = input[HEAD..].split_at(request.text as usize);
     let pixels = &mut room[..request.len];
     let (rows, codes) = drawn(request, text, font, pixels)?;
@@ -97,8 +97,8 @@ fn shown<'a>(input: &'a [u8], room: &'a mut [u32; PIXELS]) -> Result<Printout<'a
 fn answer<'a>(
     room: &'a mut [u8; ROOM],
     pixels: &'a mut [u32; PIXELS],
-) -> Result<Printout<'a>, Trouble> {
-    shown(input(room)?, pixels)
+) -> Result<Printout<'a>, Fault> {
+    shown(input_into(room)?, pixels)
 }
 
 // Room for the input and a byte more: an array, as a program that allocates could run out of memory. Its length comes
@@ -119,5 +119,5 @@ fn clear() -> [u32; PIXELS]
 fn main() {
     let mut input = room();
     let mut pixels = clear();
-    print_answer(answer(&mut input, &mut pixels));
+    print_quietly(answer(&mut input, &mut pixels));
 }

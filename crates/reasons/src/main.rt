@@ -14,7 +14,7 @@ ghost use Rattle.std.specs.Prelude.{◌≡◌, length};
 
 use crate::asked::{HEAD, Kind, Request, asked_of};
 use crate::lines::{write_code, write_text};
-use console::{Trouble, input, print_answer};
+use console::{Fault, input_into, print_quietly};
 use load::Loaded;
 use outcome::ok_place;
 use std::fmt;
@@ -26,26 +26,26 @@ use vet::Vetted;
 // which a longer input is seen.
 const ROOM: usize = HEAD + 65536 + 573440 + 1;
 
-fn loaded(font: &[u8]) -> Result<Record, Trouble> {
+fn loaded(font: &[u8]) -> Result<Record, Fault> {
     match load::load_pcf(font) {
         Loaded::Font(rec) => Ok(rec),
-        Loaded::Refused(no) => Err(Trouble::Font(no)),
+        Loaded::Refused(no) => Err(Fault::Font(no)),
     }
 }
 
 // The tests that every drawing makes come first.
-fn permitted(permit: Permit) -> Result<(), Trouble> {
+fn permitted(permit: Permit) -> Result<(), Fault> {
     match permit {
         Permit::Given => Ok(()),
-        Permit::Refused(no) => Err(Trouble::Text(no)),
+        Permit::Refused(no) => Err(Fault::Text(no)),
     }
 }
 
 // A text is refused as a whole, as when it is drawn.
-fn checked(text: &[u8]) -> Result<(), Trouble> {
+fn checked(text: &[u8]) -> Result<(), Fault> {
     match utf8::check(text) {
         Checked::Whole => Ok(()),
-        Checked::Refused(no) => Err(Trouble::Text(no)),
+        Checked::Refused(no) => Err(Fault::Text(no)),
     }
 }
 
@@ -62,7 +62,7 @@ impl fmt::Display for Printout<'_> {
     fn fmt<W: fmt::Write>(&self, f: &mut fmt::Formatter<W>) -> fmt::Result {
         let r = self.request;
         if let Vetted::Refused(no) = vet::vet(self.font) {
-            writeln!(f, "{}", Trouble::Vetting(no))?;
+            writeln!(f, "{}", Fault::Vetting(no))?;
         }
         let whole = match r.kind {
             Kind::Characters => write_text(f, r, self.text, self.font, self.rec)?,
@@ -77,8 +77,8 @@ impl fmt::Display for Printout<'_> {
 }
 
 // What is printed of an input.
-fn told(input: &[u8]) -> Result<Printout<'_>, Trouble> {
-    let request = asked_of(input).ok_or(Trouble::Input)?;
+fn told(input: &[u8]) -> Result<Printout<'_>, Fault> {
+    let request = asked_of(input).ok_or(Fault::Input)?;
     let (text, font) = input[HEAD..].split_at(request.text as usize);
     let rec = loaded(font)?;
     permitted(guard(
@@ -94,8 +94,8 @@ fn told(input: &[u8]) -> Result<Printout<'_>, Trouble> {
     })
 }
 
-fn answer(room: &mut [u8; ROOM]) -> Result<Printout<'_>, Trouble> {
-    told(input(room)?)
+fn answer(room: &mut [u8; ROOM]) -> Result<Printout<'_>, Fault> {
+    told(input_into(room)?)
 }
 
 // Room for the input and a byte more: an array, as a program that allocates could run out of memory. Its length comes
@@ -108,5 +108,5 @@ fn room() -> [u8; ROOM]
 
 fn main() {
     let mut input = room();
-    print_answer(answer(&mut input));
+    print_quietly(answer(&mut input));
 }
