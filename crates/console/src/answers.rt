@@ -1,5 +1,5 @@
 // What a program that answers one input reads and prints: the answer, or in a line why it has none.
-ghost use Rattle.std.specs.Prelude.{◌≡◌, ◌*◌, ◌<◌, length, IfOk};
+ghost use Rattle.std.specs.Prelude.{◌≡◌, ◌*◌, ◌<◌, length, IfOk, IfErr};
 ghost use Rattle.console.specs.Asked.{number_in};
 
 use crate::output::QuietOutput;
@@ -33,7 +33,8 @@ pub struct UnknownKind;
 
 // Standard input, to its end or to a read that fails. One that fills the room may be longer, and is not taken.
 pub fn input_into(room: &mut [u8]) -> Result<&[u8], Fault>
-    ensures { IfOk result (λ bytes. length bytes.now < length room.old) }
+    ensures shorter { IfOk result (λ bytes. length bytes.now < length room.old) }
+    ensures refused { IfErr result (λ why. why ≡ Fault.Input) }
 {
     let limit = room.len();
     let n = io::read_full(0, room);

@@ -1,5 +1,5 @@
 // What a program with a heap reads and prints through its runtime: the answer, or in a line why it has none.
-ghost use Rattle.std.specs.Prelude.{◌≡◌, ◌<◌, IfOk, IsErrOf, IsTrue, is_err, vec_len};
+ghost use Rattle.std.specs.Prelude.{◌≡◌, ◌<◌, ◌⊎◌, IfOk, IfErr, IsErrOf, IsTrue, is_err, vec_len};
 
 use crate::answers::Fault;
 use crate::files::read_full;
@@ -18,9 +18,11 @@ pub enum Trouble {
 }
 
 impl From<AllocError> for Trouble {
-    fn from(_error: AllocError) -> Trouble
-        ensures { result ≡ Trouble.Memory }
-    {
+    ghost use Rattle.console.specs.declared.runtime.Trouble.{Trouble};
+
+    ghost from_gives = { λ _ trouble. trouble ≡ Trouble.Memory };
+
+    fn from(_error: AllocError) -> Trouble {
         Self::Memory
     }
 }
@@ -39,7 +41,8 @@ impl fmt::Display for Trouble {
 
 // The runtime's input, to its end or to a read that fails. One of `limit` bytes may be longer, and is not taken.
 pub fn input<R: Input + AllocGlobal>(rt: &R, limit: usize) -> Result<Vec<u8>, Trouble>
-    ensures { IfOk result (λ bytes. vec_len bytes < limit) }
+    ensures shorter { IfOk result (λ bytes. vec_len bytes < limit) }
+    ensures refused { IfErr result (λ why. (why ≡ Trouble.Input) ⊎ (why ≡ Trouble.Memory)) }
 {
     let mut bytes = vec![in rt.alloc(); 0u8; limit]?;
     let n = read_full(&mut rt.reader(), &mut bytes);
